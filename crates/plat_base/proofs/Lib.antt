@@ -1,0 +1,6 @@
+pub mod SlotLemmas
+pub mod CopiesLemmas
+pub mod NameLemmas
+pub mod LimitLemmas
+pub mod RoomLemmas
+pub mod Rows

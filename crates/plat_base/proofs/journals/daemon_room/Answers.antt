@@ -1,0 +1,7 @@
+use Rattle.std.proofs.Common.{arith}
+use Rattle.plat_base.specs.Seen.{machine}
+use Rattle.plat_base.proofs.RoomLemmas.{thaws_most}
+use Rattle.plat_base.proofs.journals.daemon_room.Goals as goal
+
+pub overflow_mul-result-in-Platinum : goal.overflow_mul-result-in-Platinum
+overflow_mul-result-in-Platinum c = omega (arith, thaws_most (machine c.args.cfg.now) _ _ c.args.cfg.now.limits c.in-Platinum.is)

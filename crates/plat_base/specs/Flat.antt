@@ -1,0 +1,34 @@
+-- flat memory: the value of each word, and how often it was written
+use Rattle.std.specs.Prelude.{ℕ, ◌+◌, ◌==◌, ◌&&◌, if◌then◌else◌, Bool, true, false, List}
+use Rattle.std.specs.List.{fold}
+use Rattle.plat_base.specs.Machine.{Machine}
+use Rattle.plat_base.specs.Pages.{initial_value}
+use Rattle.plat_base.specs.declared.items.Item.{Item}
+use Rattle.plat_base.specs.declared.items.Item.TheVariants as item
+use Rattle.plat_base.specs.declared.items.Kind.{Kind}
+use Rattle.plat_base.specs.declared.items.Kind.TheVariants as kind
+
+abbrev pub is_write : Kind → Bool
+is_write kind.Load = false
+is_write kind.Store = true
+is_write kind.Add = true
+
+abbrev pub writes_word : (page word : ℕ) → Item → Bool
+writes_word page word (item.Access a) = is_write a.kind && a.page == page && a.word == word
+writes_word page word (item.Change c) = false
+writes_word page word (item.Applied x) = false
+writes_word page word (item.Switch s) = false
+
+abbrev pub written : Item → ℕ
+written (item.Access a) = a.new
+written (item.Change c) = 0
+written (item.Applied x) = 0
+written (item.Switch s) = 0
+
+-- the value of a word after these items
+abbrev pub flat_value : Machine → List Item → (page word : ℕ) → ℕ
+flat_value m items page word = fold (λ v i. if writes_word page word i then written i else v) (initial_value m page word) items
+
+-- how many of these items wrote a word
+abbrev pub flat_writes : List Item → (page word : ℕ) → ℕ
+flat_writes items page word = fold (λ n i. if writes_word page word i then n + 1 else n) 0 items

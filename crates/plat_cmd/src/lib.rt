@@ -1,0 +1,14 @@
+//! The commands of the program, and its top call.
+#![tactic(auto)]
+
+mod checks;
+mod outcomes;
+mod readings;
+mod runs;
+mod sims;
+mod tops;
+mod words;
+
+pub use outcomes::{Outcome, Stop};
+pub use tops::{check, platinum, sim};
+pub use words::{Command, Grain, Output, WordsFault, read_words};

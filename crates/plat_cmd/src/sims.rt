@@ -1,0 +1,66 @@
+//! Simulations: the coarse run of a machine, and its report.
+ghost use Rattle.std.specs.Prelude.{◌≡◌, ◌⊎◌, [], Ok, IfOk};
+ghost use Rattle.plat_base.specs.Machine.{Machine};
+ghost use Rattle.plat_base.specs.Seen.{machine};
+ghost use Rattle.plat_base.specs.declared.statuses.Status.TheVariants as statuses;
+ghost use Rattle.plat_flat.specs.FlatSeen.{IsFlatOf};
+ghost use Rattle.plat_cmd.specs.Promise.{HasRun, HasStopped, history_of, ends_of};
+ghost use Rattle.plat_cmd.specs.declared.outcomes.Stop.TheVariants as stops;
+
+use crate::outcomes::{Outcome, status_after, status_of, without_run};
+use crate::runs::run;
+use plat_base::{Config, Finished, OutOfMemory, Status};
+use plat_io::Sink;
+use plat_report::{Tally, report};
+use std::alloc::Global;
+
+/// A run that is over, and what its report needs.
+#[derive(Drop)]
+struct Made {
+    finished: Finished,
+    tally: Tally,
+}
+
+/// The coarse run of a machine. All memory that the report takes is taken before it.
+fn make(alloc: Global, cfg: Config) -> Result<Made, OutOfMemory>
+    ensures machine { IfOk result (λ made. machine made.finished.cfg ≡ machine cfg) }
+    ensures items { IfOk result (λ made. made.finished.items.items ≡ history_of (machine cfg)) }
+    ensures ends { IfOk result (λ made. made.finished.ends.items ≡ ends_of (machine cfg)) }
+    ensures tally { IfOk result (λ made. IsFlatOf (machine cfg) [] made.tally) }
+{
+    let tally = Tally::new(alloc, &cfg)?;
+    let finished = run(alloc, cfg)?;
+    Ok(Made { finished, tally })
+}
+
+/// Writes the report of a run.
+fn reported<K: Sink>(made: Made, sink: &mut K) -> Outcome
+    requires items { made.finished.items.items ≡ history_of (machine made.finished.cfg) }
+    requires ends { made.finished.ends.items ≡ ends_of (machine made.finished.cfg) }
+    requires tally { IsFlatOf (machine made.finished.cfg) [] made.tally }
+    ensures { HasRun K.Sink (machine made.finished.cfg) sink.old sink.new result.status result.kept.items }
+{
+    let Made { finished, tally } = made;
+    let written = report(
+        tally,
+        &finished.cfg,
+        finished.items.as_slice(),
+        finished.ends.as_slice(),
+        sink,
+    );
+    let complete = status_of(finished.ends.as_slice());
+    Outcome {
+        status: status_after(complete, written),
+        kept: finished.items,
+    }
+}
+
+/// Makes the coarse run of a machine and writes its report.
+pub fn simulate<K: Sink>(alloc: Global, cfg: Config, sink: &mut K) -> Outcome
+    ensures { HasRun K.Sink (machine cfg) sink.old sink.new result.status result.kept.items ⊎ HasStopped stops.OutOfMemory sink.old sink.new result.status result.kept.items }
+{
+    match make(alloc, cfg) {
+        Ok(made) => reported(made, sink),
+        Err(_) => without_run(alloc, Status::OutOfMemory),
+    }
+}

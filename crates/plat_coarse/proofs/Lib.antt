@@ -1,0 +1,16 @@
+pub mod RemovalLemmas
+pub mod SpaceLemmas
+pub mod OtherLemmas
+pub mod TranslationLemmas
+pub mod FollowsLemmas
+pub mod RoomLemmas
+pub mod MachineLemmas
+pub mod NumberLemmas
+pub mod FrameLemmas
+pub mod MessageLemmas
+pub mod FaultLemmas
+pub mod DaemonLemmas
+pub mod ReachLemmas
+pub mod GuestStateLemmas
+pub mod TurnLemmas
+pub mod StartLemmas

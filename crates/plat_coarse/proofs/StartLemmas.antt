@@ -1,0 +1,52 @@
+-- before its first turn the engine follows the empty history
+use Rattle.std.proofs.Common.{◌≡◌, ℕ, ◌+◌, ◌<◌, ◌≤◌, List, [], length, true, refl, sym, ap, ◌∙◌, subst, arith}
+use Rattle.std.specs.Prelude.{slice_index_or, replicate}
+use Rattle.std.proofs.lemmas.List.{get_or-replicate, length-replicate}
+use Rattle.std.proofs.lemmas.List.Folds.{sum_by-replicate}
+use Rattle.plat_base.specs.Machine.{Machine}
+use Rattle.plat_base.specs.GuestRun.{GuestRun, guest_start}
+use Rattle.plat_base.specs.Coarse.{Coarse, cut_at, coarse_start, is_live, time_of, guest_now}
+use Rattle.plat_base.specs.Verdicts.{policy_answer}
+use Rattle.plat_base.specs.declared.endings.Ended.{Ended}
+use Rattle.plat_guest.specs.GuestSeen.{GuestSeen, new_guest}
+use Rattle.plat_laws.specs.Sound.{IsMachine, Sound}
+use Rattle.plat_laws.specs.Room.{room, IsRoomy}
+use Rattle.plat_laws.proofs.RoomLaws.{roomy_start}
+use Rattle.plat_laws.proofs.EndLaws.{is_live-below}
+use Rattle.plat_laws.proofs.TurnLaws.{sound_start}
+use Rattle.plat_coarse.specs.Advanced.{no_guest}
+use Rattle.plat_coarse.specs.Chronicle.{Chronicled}
+use Rattle.plat_coarse.specs.CoarseSeen.{RunsOn}
+use Rattle.plat_coarse.specs.Running.{state_of}
+
+guest_now-start : (m : Machine) (q : ℕ) → q < m.nodes → (guest_now m (coarse_start m) q).state ≡ guest_start m q
+guest_now-start m q inside = rw (get_or-replicate m.nodes q (cut_at 0) (cut_at 0) inside) refl
+
+pub start_is : (m : Machine) (k : Chronicled) (ends : List Ended) → k.items ≡ [] → ends ≡ replicate m.nodes (cut_at 0) → state_of k ends ≡ coarse_start m
+start_is m k ends none cut = ap (λ is. record { history = is; ends = ends }) none ∙ ap (λ es. record { history = []; ends = es }) cut
+
+starts : (m : Machine) (k : Chronicled) (ends : List Ended) (guests : List GuestSeen) → IsMachine m → k.machine ≡ m → k.items ≡ []
+    → room m ≤ k.spare → ends ≡ replicate m.nodes (cut_at 0) → length guests ≡ m.nodes
+    → ((q : ℕ) → q < m.nodes → slice_index_or guests q no_guest ≡ new_guest m q)
+    → RunsOn (record { machine = m; items = k.items; spare = k.spare }) ends guests 0
+starts m k ends guests machine same none spare cut count each = record {
+  machine = machine;
+  sound = subst (λ (s : Coarse). Sound m (policy_answer m.policy) s) (sym (start_is m k ends none cut)) (sound_start m (policy_answer m.policy) machine);
+  roomy = subst (λ (s : Coarse). IsRoomy m s) (sym (start_is m k ends none cut)) (roomy_start m);
+  time = sym (ap time_of cut ∙ (sum_by-replicate (λ (x : Ended). x.turns) m.nodes (cut_at 0) ∙ omega arith));
+  guests = count;
+  nodes = λ q inside. ap (λ (g : GuestSeen). g.node) (each q inside);
+  states = λ q live.
+      let here : is_live (replicate m.nodes (cut_at 0)) q ≡ true = subst (λ (es : List Ended). is_live es q ≡ true) cut live in
+      let inside : q < m.nodes = omega (arith, is_live-below (replicate m.nodes (cut_at 0)) q here, length-replicate m.nodes (cut_at 0)) in
+      ap (λ (g : GuestSeen). g.state) (each q inside)
+      ∙ (sym (guest_now-start m q inside) ∙ ap (λ (s : Coarse). (guest_now m s q).state) (sym (start_is m k ends none cut)));
+  room = omega (arith, spare);
+}
+
+pub RunsOn-start : (m : Machine) (k : Chronicled) (ends : List Ended) (guests : List GuestSeen) → IsMachine m → k.machine ≡ m → k.items ≡ []
+    → room m ≤ k.spare → ends ≡ replicate m.nodes (cut_at 0) → length guests ≡ m.nodes
+    → ((q : ℕ) → q < m.nodes → slice_index_or guests q no_guest ≡ new_guest m q) → RunsOn k ends guests 0
+RunsOn-start m k ends guests machine same none spare cut count each =
+    subst (λ (x : Machine). RunsOn (record { machine = x; items = k.items; spare = k.spare }) ends guests 0) (sym same)
+    (starts m k ends guests machine same none spare cut count each)

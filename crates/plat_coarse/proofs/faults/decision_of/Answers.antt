@@ -1,0 +1,35 @@
+use Rattle.std.proofs.Common.{◌≡◌, ℕ, subst, sym, false, ◌∙◌, ap, Some}
+use Rattle.std.specs.Prelude.{IsTrue}
+use Rattle.plat_base.specs.Machine.{Machine}
+use Rattle.plat_base.specs.Coarse.{is_starved, got_frame}
+use Rattle.plat_base.specs.Decide.{decide, fits_cause}
+use Rattle.plat_base.specs.Directories.{dir_of, last_of}
+use Rattle.plat_base.specs.Verdicts.{policy_answer}
+use Rattle.plat_base.specs.declared.policies.Decision.{Decision}
+use Rattle.plat_coarse.proofs.FaultLemmas.{starved-got, fits-fed, decided-fed}
+use Rattle.plat_coarse.proofs.faults.decision_of.Goals as goal
+
+fed : (c : goal.After-last) → is_starved c.args.chronicle.now.machine c.args.chronicle.now.items c.args.q c.args.page ≡ false
+fed c =
+    let m = c.args.chronicle.now.machine in
+    let starved = starved-got m (policy_answer m.policy) c.args.chronicle.now.items c.args.q c.args.page c.args.now c.args.cause in
+    cc (starved, c.is_starved.ensures, c.if-is_starved.false, c.got_frame-got.ensures, c.dir-dir.ensures)
+
+pub decide-requires-clause-fits : goal.decide-requires-clause-fits
+decide-requires-clause-fits c =
+    let m = c.args.chronicle.now.machine in
+    let fits = fits-fed m (policy_answer m.policy) c.args.chronicle.now.items c.args.q c.args.page c.args.now c.args.cause c.requires.dirs c.requires.processor (fed c) c.requires.fault in
+    let P : Machine → Type 0 = λ m. IsTrue (fits_cause m (policy_answer m.policy) c.dir-dir.result c.last.result c.args.now c.args.q c.args.cause c.got_frame-got.result) in
+    subst P (sym c.config-cfg.ensures) (rw (c.dir-dir.ensures, c.last.ensures, c.got_frame-got.ensures) fits)
+
+pub returns : goal.returns
+returns c =
+    let m = c.args.chronicle.now.machine in
+    let starved = starved-got m (policy_answer m.policy) c.args.chronicle.now.items c.args.q c.args.page c.args.now c.args.cause in
+    let none : is_starved m c.args.chronicle.now.items c.args.q c.args.page ≡ false =
+    cc (starved, c.is_starved.ensures, c.if-is_starved.false, c.got_frame-got.ensures, c.dir-dir.ensures) in
+    let P : Machine → Type 0 = λ m. c.decide.result ≡ decide m (policy_answer m.policy) c.dir-dir.result c.last.result c.args.now c.args.q c.args.cause c.got_frame-got.result in
+    let here : P m = subst P c.config-cfg.ensures c.decide.ensures in
+    let is = rw (c.dir-dir.ensures, c.last.ensures, c.got_frame-got.ensures) at here in
+    let goes = decided-fed m (policy_answer m.policy) c.args.chronicle.now.items c.args.q c.args.page c.args.now c.args.cause none in
+    cc (is, goes)

@@ -1,0 +1,8 @@
+use Rattle.plat_coarse.proofs.MessageLemmas.{HasSent, sent_before}
+use Rattle.plat_coarse.proofs.messages.interrupt.Given as goal
+
+-- the messages for the entries before the next one are sent
+abbrev pub invariant-loop-entry : goal.invariant-loop-entry
+invariant-loop-entry l =
+    let before = l.fn.chronicle
+    in HasSent before l.chronicle (sent_before before.machine before.items l.ends l.initiator l.page l.removed l.entry)

@@ -1,0 +1,12 @@
+pub mod Pages
+pub mod Spaces
+pub mod Removals
+pub mod Kinds
+pub mod Translations
+pub mod Chronicle
+pub mod Nearer
+pub mod Running
+pub mod Reached
+pub mod CoarseSeen
+pub mod Acted
+pub mod Advanced

@@ -1,0 +1,176 @@
+//! Messages: the shootdown of a page by interrupts, and what waits for a processor that switches.
+ghost use Rattle.std.specs.Prelude.{◌≡◌, ◌+◌, ◌<◌, ◌≤◌, length, ◌++◌, Some};
+ghost use Rattle.plat_base.specs.Coarse.{is_live as is_live_of, is_target as is_target_of, interrupts, owed_for, owed, switch_items, removes_some, message_of};
+ghost use Rattle.plat_base.specs.Seen.{machine};
+ghost use Rattle.plat_base.specs.Pages.{page_of, space_of};
+ghost use Rattle.plat_coarse.specs.Running.{state_of, interrupts_for};
+
+use crate::chronicle::Chronicle;
+use plat_base::{Applied, Config, End, Ended, Message, Moment, Removed, Switch, Translation};
+
+/// Whether a change removes something.
+fn removes_some(removed: Removed) -> bool
+    ensures { result ≡ removes_some removed }
+{
+    match removed {
+        Removed::Nothing => false,
+        Removed::Writes | Removed::All => true,
+    }
+}
+
+/// The message that tells of what a change removes.
+fn message_of_removed(removed: Removed) -> Message
+    ensures { result ≡ message_of removed }
+{
+    match removed {
+        Removed::All => Message::Invalidate,
+        Removed::Nothing | Removed::Writes => Message::Restrict,
+    }
+}
+
+/// Whether processor `q` has not ended.
+pub fn is_live(ends: &[Ended], q: u32) -> bool
+    ensures { result ≡ is_live_of ends.now q }
+{
+    ends.get(q as usize)
+        .is_some_and(|ended| ended.end == End::Cut)
+}
+
+/// The number of entries of the address maps.
+fn entry_count(cfg: &Config) -> u32
+    ensures { result ≡ length cfg.now.entries.items }
+{
+    cfg.entries.len() as u32
+}
+
+/// The space that an entry is of.
+fn space_of_entry(cfg: &Config, entry: u32) -> u32
+    requires { entry < length cfg.now.entries.items }
+    ensures { result ≡ space_of (machine cfg.now) entry }
+{
+    cfg.entries.as_slice()[entry as usize].space
+}
+
+/// The page that an entry leads to.
+fn page_of_entry(cfg: &Config, entry: u32) -> u32
+    requires { entry < length cfg.now.entries.items }
+    ensures page { result ≡ page_of (machine cfg.now) entry }
+    ensures within { result < cfg.now.pages }
+{
+    cfg.entries.as_slice()[entry as usize].page
+}
+
+/// Whether processor `r`, other than the initiator, is live, active in the entry's space, and holds the entry.
+fn is_target(chronicle: &Chronicle, ends: &[Ended], initiator: u32, entry: u32, r: u32) -> bool
+    requires processor { r < chronicle.now.machine.nodes }
+    requires entry { entry < length chronicle.now.machine.entries }
+    ensures { result ≡ is_target_of chronicle.now.machine (state_of chronicle.now ends.now) initiator entry r }
+{
+    let space = space_of_entry(chronicle.config(), entry);
+    r != initiator
+        && is_live(ends, r)
+        && chronicle.held(r, entry).is_some()
+        && chronicle.active(r) == space
+}
+
+/// Interrupts the other processors for one entry.
+fn interrupt_entry(
+    chronicle: &mut Chronicle,
+    ends: &[Ended],
+    initiator: u32,
+    entry: u32,
+    removed: Removed,
+)
+    requires entry { entry < length chronicle.old.machine.entries }
+    requires spare { length (interrupts_for chronicle.old.machine (state_of chronicle.old ends.now) initiator removed entry) ≤ chronicle.old.spare }
+    requires few { length chronicle.old.items + length (interrupts_for chronicle.old.machine (state_of chronicle.old ends.now) initiator removed entry) ≤ 2621440 }
+    ensures machine { chronicle.new.machine ≡ chronicle.old.machine }
+    ensures items { chronicle.new.items ≡ chronicle.old.items ++ interrupts_for chronicle.old.machine (state_of chronicle.old ends.now) initiator removed entry }
+    ensures spare { chronicle.new.spare + length (interrupts_for chronicle.old.machine (state_of chronicle.old ends.now) initiator removed entry) ≡ chronicle.old.spare }
+{
+    let message = message_of_removed(removed);
+    for r in 0..chronicle.config().nodes {
+        if is_target(chronicle, ends, initiator, entry, r) {
+            chronicle.add_applied(Applied {
+                actor: r,
+                entry,
+                message,
+                moment: Moment::Interrupt,
+            });
+        }
+    }
+}
+
+/// Interrupts the other processors before a change of a page that removes something: over the page's entries in rising
+/// number, and for each over the processors in rising number.
+pub fn interrupt(
+    chronicle: &mut Chronicle,
+    ends: &[Ended],
+    initiator: u32,
+    page: u32,
+    removed: Removed,
+)
+    requires spare { length (interrupts chronicle.old.machine (state_of chronicle.old ends.now) initiator page removed) ≤ chronicle.old.spare }
+    requires few { length chronicle.old.items + length (interrupts chronicle.old.machine (state_of chronicle.old ends.now) initiator page removed) ≤ 2621440 }
+    ensures machine { chronicle.new.machine ≡ chronicle.old.machine }
+    ensures items { chronicle.new.items ≡ chronicle.old.items ++ interrupts chronicle.old.machine (state_of chronicle.old ends.now) initiator page removed }
+    ensures spare { chronicle.new.spare + length (interrupts chronicle.old.machine (state_of chronicle.old ends.now) initiator page removed) ≡ chronicle.old.spare }
+{
+    if !removes_some(removed) {
+        return;
+    }
+    for entry in 0..entry_count(chronicle.config()) {
+        if page_of_entry(chronicle.config(), entry) == page {
+            interrupt_entry(chronicle, ends, initiator, entry, removed);
+        }
+    }
+}
+
+/// The message that processor `q` still has to apply to this translation of a page.
+fn owed_for(chronicle: &Chronicle, q: u32, page: u32, translation: Translation) -> Option<Message>
+    requires { page < chronicle.now.machine.pages }
+    ensures { result ≡ owed_for chronicle.now.items q page (Some translation) }
+{
+    if chronicle.removed_all(q, page, translation.seq) {
+        Some(Message::Invalidate)
+    } else if !translation.restricted && chronicle.removed_writes(q, page, translation.seq) {
+        Some(Message::Restrict)
+    } else {
+        None
+    }
+}
+
+/// The message that processor `q` still has to apply to its translation of an entry.
+fn owed_message(chronicle: &Chronicle, q: u32, entry: u32) -> Option<Message>
+    requires processor { q < chronicle.now.machine.nodes }
+    requires entry { entry < length chronicle.now.machine.entries }
+    ensures { result ≡ owed chronicle.now.machine chronicle.now.items q entry }
+{
+    let page = page_of_entry(chronicle.config(), entry);
+    let translation = chronicle.held(q, entry)?;
+    owed_for(chronicle, q, page, translation)
+}
+
+/// Switches processor `q` to a space, and applies what waits for the entries of that space, in rising number.
+pub fn switch(chronicle: &mut Chronicle, q: u32, space: u32)
+    requires processor { q < chronicle.old.machine.nodes }
+    requires spare { length (switch_items chronicle.old.machine chronicle.old.items q space) ≤ chronicle.old.spare }
+    requires few { length chronicle.old.items + length (switch_items chronicle.old.machine chronicle.old.items q space) ≤ 2621440 }
+    ensures machine { chronicle.new.machine ≡ chronicle.old.machine }
+    ensures items { chronicle.new.items ≡ chronicle.old.items ++ switch_items chronicle.old.machine chronicle.old.items q space }
+    ensures spare { chronicle.new.spare + length (switch_items chronicle.old.machine chronicle.old.items q space) ≡ chronicle.old.spare }
+{
+    chronicle.add_switch(Switch { actor: q, space });
+    for entry in 0..entry_count(chronicle.config()) {
+        if space_of_entry(chronicle.config(), entry) == space {
+            if let Some(message) = owed_message(chronicle, q, entry) {
+                chronicle.add_applied(Applied {
+                    actor: q,
+                    entry,
+                    message,
+                    moment: Moment::Activation,
+                });
+            }
+        }
+    }
+}

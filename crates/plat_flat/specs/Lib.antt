@@ -1,0 +1,2 @@
+pub mod FlatSeen
+pub mod Tried

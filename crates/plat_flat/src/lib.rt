@@ -1,0 +1,8 @@
+//! Flat memory: the value of each word of each page, and how often it was written, with no regard to copies.
+#![tactic(auto)]
+
+mod memory;
+#[cfg(test)]
+mod tests;
+
+pub use memory::Flat;

@@ -1,0 +1,2 @@
+pub mod GuestSeen
+pub mod Small

@@ -1,0 +1,4 @@
+pub mod Pieces
+pub mod LineLemmas
+pub mod ReadLemmas
+pub mod SinkLemmas

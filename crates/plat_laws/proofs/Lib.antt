@@ -1,0 +1,14 @@
+pub mod ItemLaws
+pub mod Limits
+pub mod GuestLaws
+pub mod EndLaws
+pub mod MessageLaws
+pub mod NumberLaws
+pub mod TableLaws
+pub mod FrameLaws
+pub mod SettledLaws
+pub mod SettledSwitchLaws
+pub mod TurnItemLaws
+pub mod RunLaws
+pub mod TurnLaws
+pub mod RoomLaws

@@ -1,0 +1,137 @@
+-- what the limits of a machine say, one by one
+use Rattle.std.proofs.Common.{◌≡◌, ℕ, zero, suc, ◌<◌, ◌≤◌, Bool, true, false, List, [], ◌∷◌, length, get_or, refl, arith}
+use Rattle.std.specs.Prelude.{Some, slice_get, ◌&&◌}
+use Rattle.std.specs.List.{list_all}
+use Rattle.std.proofs.lemmas.Bool.Decides.{nat_tests}
+use Rattle.std.proofs.lemmas.Option.{get_or_from_slice_get, slice_get_within}
+use Rattle.plat_base.specs.Machine.{Machine, Program, limits, is_within, is_page_size, is_policy, is_entry, is_program, is_instr}
+use Rattle.plat_base.specs.Pages.{page_of, space_of, no_entry, program_of, no_program}
+use Rattle.plat_base.specs.declared.guests.Instr.{Instr}
+use Rattle.plat_base.specs.declared.policies.PolicyKind.TheVariants as policy
+use Rattle.plat_laws.specs.Sound.{IsMachine}
+
+-- ---- a test of each element, at one of them
+
+pub and-left : (b c : Bool) → (b && c) ≡ true → b ≡ true
+and-left true c h = refl
+and-left false c h = h
+
+pub and-right : (b c : Bool) → (b && c) ≡ true → c ≡ true
+and-right true c h = h
+and-right false c h = absurd cc
+
+pub list_all-get_or : {A : Type 0} (p : A → Bool) (xs : List A) (i : ℕ) (d : A) → list_all p xs ≡ true → i < length xs → p (get_or xs i d) ≡ true
+list_all-get_or p [] i d h l = absurd (omega arith)
+list_all-get_or p (x ∷ xs) zero d h l = and-left (p x) (list_all p xs) h
+list_all-get_or p (x ∷ xs) (suc i) d h l = list_all-get_or p xs i d (and-right (p x) (list_all p xs) h) (omega arith)
+
+limit_at : (m : Machine) (i : ℕ) → IsMachine m → i < 15 → get_or (limits m) i true ≡ true
+limit_at m i h l = list_all-get_or (λ b. b) (limits m) i true h l
+
+is_within-low : (low high n : ℕ) → is_within low high n ≡ true → low ≤ n
+is_within-low low high n h = grind (arith, nat_tests)
+
+is_within-high : (low high n : ℕ) → is_within low high n ≡ true → n ≤ high
+is_within-high low high n h = grind (arith, nat_tests)
+
+-- ---- numbers
+
+pub nodes-some : (m : Machine) → IsMachine m → 1 ≤ m.nodes
+nodes-some m h = is_within-low 1 8 m.nodes (limit_at m 0 h (omega arith))
+
+pub nodes-most : (m : Machine) → IsMachine m → m.nodes ≤ 8
+nodes-most m h = is_within-high 1 8 m.nodes (limit_at m 0 h (omega arith))
+
+pub frames-some : (m : Machine) → IsMachine m → 1 ≤ m.frames
+frames-some m h = is_within-low 1 64 m.frames (limit_at m 1 h (omega arith))
+
+pub frames-most : (m : Machine) → IsMachine m → m.frames ≤ 64
+frames-most m h = is_within-high 1 64 m.frames (limit_at m 1 h (omega arith))
+
+is_page_size-some : (n : ℕ) → is_page_size n ≡ true → 0 < n
+is_page_size-some n h = grind (arith, nat_tests)
+
+is_page_size-most : (n : ℕ) → is_page_size n ≡ true → n ≤ 64
+is_page_size-most n h = grind (arith, nat_tests)
+
+pub words-some : (m : Machine) → IsMachine m → 0 < m.words
+words-some m h = is_page_size-some m.words (limit_at m 2 h (omega arith))
+
+pub words-most : (m : Machine) → IsMachine m → m.words ≤ 64
+words-most m h = is_page_size-most m.words (limit_at m 2 h (omega arith))
+
+pub pages-some : (m : Machine) → IsMachine m → 1 ≤ m.pages
+pages-some m h = is_within-low 1 64 m.pages (limit_at m 3 h (omega arith))
+
+pub pages-most : (m : Machine) → IsMachine m → m.pages ≤ 64
+pages-most m h = is_within-high 1 64 m.pages (limit_at m 3 h (omega arith))
+
+pub budget-some : (m : Machine) → IsMachine m → 1 ≤ m.budget
+budget-some m h = is_within-low 1 65536 m.budget (limit_at m 5 h (omega arith))
+
+pub budget-most : (m : Machine) → IsMachine m → m.budget ≤ 65536
+budget-most m h = is_within-high 1 65536 m.budget (limit_at m 5 h (omega arith))
+
+pub guests-count : (m : Machine) → IsMachine m → length m.guests ≡ m.nodes
+guests-count m h = let e = limit_at m 13 h (omega arith) in grind (arith, nat_tests)
+
+-- ---- the policy
+
+is_policy-platinum : (t1 t2 : ℕ) → is_policy (policy.Platinum t1 t2) ≡ true → (t1 ≤ 1000000) × (64 ≤ t2) × (t2 ≤ 1000000)
+is_policy-platinum t1 t2 h = grind (arith, nat_tests)
+
+-- the window, and the daemon's period from below and above
+pub platinum-limits :
+    (m : Machine) (t1 t2 : ℕ) → IsMachine m → m.policy ≡ policy.Platinum t1 t2 → (t1 ≤ 1000000) × (64 ≤ t2) × (t2 ≤ 1000000)
+platinum-limits m t1 t2 h e = is_policy-platinum t1 t2 (rw e at (limit_at m 4 h (omega arith)))
+
+-- ---- entries
+
+pub entry-limits :
+    (m : Machine) (e : ℕ) → IsMachine m → e < length m.entries
+    → (space_of m e ≤ 7) × ((get_or m.entries e no_entry).vpage ≤ 63) × (page_of m e < m.pages)
+entry-limits m e h l =
+    let t = list_all-get_or (is_entry m.pages) m.entries e no_entry (limit_at m 9 h (omega arith)) l in grind (arith, nat_tests)
+
+pub page_of-below : (m : Machine) (e : ℕ) → IsMachine m → e < length m.entries → page_of m e < m.pages
+page_of-below m e h l = (entry-limits m e h l).2
+
+pub space_of-most : (m : Machine) (e : ℕ) → IsMachine m → e < length m.entries → space_of m e ≤ 7
+space_of-most m e h l = (entry-limits m e h l).0
+
+-- ---- programs
+
+-- at a default that passes, also past the end
+list_all-get_or_any :
+    {A : Type 0} (p : A → Bool) (xs : List A) (i : ℕ) (d : A) → p d ≡ true → list_all p xs ≡ true → p (get_or xs i d) ≡ true
+list_all-get_or_any p [] i d k h = k
+list_all-get_or_any p (x ∷ xs) zero d k h = and-left (p x) (list_all p xs) h
+list_all-get_or_any p (x ∷ xs) (suc i) d k h = list_all-get_or_any p xs i d k (and-right (p x) (list_all p xs) h)
+
+pub program-limits : (m : Machine) (q : ℕ) → IsMachine m → is_program (program_of m q) ≡ true
+program-limits m q h = list_all-get_or_any is_program m.guests q no_program refl (limit_at m 14 h (omega arith))
+
+program-parts :
+    (p : Program) → is_program p ≡ true
+    → (p.space ≤ 7) × (length p.code ≤ 4096) × (length p.labels ≤ 256) × (list_all (is_instr (length p.labels)) p.code ≡ true)
+program-parts p h = grind (arith, nat_tests)
+
+pub program-space : (m : Machine) (q : ℕ) → IsMachine m → (program_of m q).space ≤ 7
+program-space m q h = (program-parts (program_of m q) (program-limits m q h)).0
+
+pub program-length : (m : Machine) (q : ℕ) → IsMachine m → length (program_of m q).code ≤ 4096
+program-length m q h = (program-parts (program_of m q) (program-limits m q h)).1
+
+slice_get-is_instr :
+    (labels : ℕ) (code : List Instr) (i : ℕ) (x : Instr) → list_all (is_instr labels) code ≡ true → slice_get code i ≡ Some x
+    → is_instr labels x ≡ true
+slice_get-is_instr labels code i x h e =
+    rw (get_or_from_slice_get code i x x e) at (list_all-get_or (is_instr labels) code i x h (slice_get_within code i x e))
+
+-- an instruction of guest q is within the limits of an instruction
+pub instr-limits :
+    (m : Machine) (q at : ℕ) (x : Instr) → IsMachine m → slice_get (program_of m q).code at ≡ Some x
+    → is_instr (length (program_of m q).labels) x ≡ true
+instr-limits m q at x h e =
+    let p = program_of m q
+    in slice_get-is_instr (length p.labels) p.code at x (program-parts p (program-limits m q h)).3 e

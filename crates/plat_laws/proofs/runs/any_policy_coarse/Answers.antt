@@ -1,0 +1,21 @@
+use Rattle.plat_base.specs.Seen.{machine}
+use Rattle.plat_laws.proofs.RoomLaws.{coarse_run_room}
+use Rattle.plat_laws.proofs.TurnLaws.{run_good, run_not_cut, run_no_frames}
+use Rattle.plat_laws.proofs.runs.any_policy_coarse.Goals as goal
+
+-- src/runs.rt:13:1
+pub returns-clause-good : goal.returns-clause-good
+returns-clause-good g c = run_good (machine c.args.cfg.now) (g.P.Policy.answer c.args.policy.now) c.args.cfg.now.limits
+
+-- src/runs.rt:13:1
+pub returns-clause-over : goal.returns-clause-over
+returns-clause-over g c = λ q inside. run_not_cut (machine c.args.cfg.now) (g.P.Policy.answer c.args.policy.now) q c.args.cfg.now.limits inside
+
+-- src/runs.rt:13:1
+pub returns-clause-fed : goal.returns-clause-fed
+returns-clause-fed g c =
+    λ enough q inside. run_no_frames (machine c.args.cfg.now) (g.P.Policy.answer c.args.policy.now) q c.args.cfg.now.limits enough inside
+
+-- src/runs.rt:13:1
+pub returns-clause-bound : goal.returns-clause-bound
+returns-clause-bound g c = coarse_run_room (machine c.args.cfg.now) (g.P.Policy.answer c.args.policy.now) c.args.cfg.now.limits

@@ -1,0 +1,15 @@
+pub mod LabelLemmas
+pub mod LoopLemmas
+pub mod HeaderLaws
+pub mod ListLaws
+pub mod InstrLaws
+pub mod MarkLaws
+pub mod BodyLaws
+pub mod LinkLaws
+pub mod GuestLaws
+pub mod MachineLaws
+pub mod WholeLaws
+pub mod PrintLimits
+pub mod PrintLines
+pub mod PrintLabels
+pub mod PrintParts

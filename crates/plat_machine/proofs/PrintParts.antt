@@ -1,0 +1,19 @@
+-- the parts that are printed make up the canonical text
+use Rattle.std.proofs.Common.{◌≡◌, List, [], ◌∷◌, ◌++◌, refl, ap}
+use Rattle.std.specs.List.{flat_map}
+use Rattle.plat_base.specs.Canon.{Words, canon_text, program_lines}
+use Rattle.plat_base.specs.Machine.{programs_seen}
+use Rattle.plat_base.specs.Seen.{machine}
+use Rattle.plat_base.specs.declared.configs.Config.{Config}
+use Rattle.plat_base.specs.declared.guests.GuestText.{GuestText}
+use Rattle.plat_io.specs.Lines.{text}
+use Rattle.plat_machine.specs.Printed.{policy_line, schedule_line, size_lines, setting_lines, guest_lines, machine_lines}
+
+guest_lines-programs : (guests : List GuestText) → flat_map guest_lines guests ≡ flat_map program_lines (programs_seen guests)
+unfolding guest_lines
+guest_lines-programs [] = refl
+guest_lines-programs (g ∷ gs) = ap (λ (ls : List Words). guest_lines g ++ ls) (guest_lines-programs gs)
+
+pub machine_lines-canon : (cfg : Config) → text (machine_lines cfg) ≡ canon_text (machine cfg)
+unfolding text canon_text size_lines setting_lines policy_line schedule_line
+machine_lines-canon cfg = rw guest_lines-programs refl

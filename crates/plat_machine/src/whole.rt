@@ -1,0 +1,157 @@
+ghost use Rattle.std.specs.Prelude.{◌≡◌, ◌+◌, ◌<◌, length, IfOk, IsTrue, ℕ, Ok};
+ghost use Rattle.plat_base.specs.Machine.{Machine};
+ghost use Rattle.plat_base.specs.Seen.{machine};
+ghost use Rattle.plat_base.specs.Canon.{is_short};
+ghost use Rattle.plat_base.specs.Forms.{Reads, Gives};
+ghost use Rattle.plat_base.specs.FirstFault.{front_at, end_line, machine_at, text_at, text_from};
+ghost use Rattle.plat_base.specs.Grammar.{IsMachine, IsTextOf, IsFrontOf};
+ghost use Rattle.plat_machine.specs.Shown.{front};
+
+use crate::guests::guests;
+use crate::headers::{Header, read_header};
+use crate::lists::{distances, entries, inits};
+use plat_base::{Config, Distance, Entry, GuestText, Init, List, Refused, TextFault, Why};
+use plat_text::{Rows, refusal};
+use std::alloc::Global;
+
+/// The most bytes that a machine text can have.
+const MOST_BYTES: usize = 1_048_576;
+
+/// What stands before the line `end` of a machine text.
+#[derive(Debug, Drop)]
+pub struct Front {
+    pub header: Header,
+    pub distances: List<Distance>,
+    pub entries: List<Entry>,
+    pub inits: List<Init>,
+    pub guests: List<GuestText>,
+}
+
+#[tactic(auto, unfolding(plat_base::specs::FirstFault::front_at))]
+fn read_front(alloc: Global, rows: &mut Rows<'_>) -> Result<Front, TextFault>
+    ensures { Gives (λ f. (front f, rows.new)) result (front_at rows.old) }
+{
+    let header = read_header(alloc, rows)?;
+    let distances = distances(alloc, rows, header.nodes)?;
+    let entries = entries(alloc, rows, header.pages)?;
+    let inits = inits(alloc, rows, header.pages, header.words)?;
+    let guests = guests(alloc, rows, header.nodes)?;
+    Ok(Front {
+        header,
+        distances,
+        entries,
+        inits,
+        guests,
+    })
+}
+
+#[tactic(auto, unfolding(plat_base::specs::FirstFault::end_line))]
+fn end(rows: &mut Rows<'_>, short: bool) -> Result<u32, Refused>
+    ensures { Reads (λ next. (next, rows.new)) result (end_line short rows.old) }
+{
+    let mut row = rows.next_row()?;
+    let line = row.line();
+    let found = row.next_word()?;
+    if found.bytes != b"end".as_slice() {
+        return Err(refusal(line, found, Why::Expected));
+    }
+    if !short {
+        return Err(refusal(line, found, Why::TooMany));
+    }
+    row.finish()?;
+    Ok(line + 1)
+}
+
+/// Reads a machine text from here on, and gives the number of the line after its line `end`.
+#[tactic(auto, unfolding(plat_base::specs::FirstFault::machine_at))]
+pub fn read_machine(alloc: Global, rows: &mut Rows<'_>) -> Result<(Config, u32), TextFault>
+    ensures { Gives (λ r. ((machine r.0, r.1), rows.new)) result (machine_at rows.old) }
+{
+    let start = rows.given();
+    let front = read_front(alloc, rows)?;
+    let short = rows.given() - start + 4 <= 1_048_576;
+    let next = end(rows, short)?;
+    let Front {
+        header,
+        distances,
+        entries,
+        inits,
+        guests,
+    } = front;
+    let Header {
+        nodes,
+        frames,
+        words,
+        pages,
+        policy,
+        budget,
+        schedule,
+    } = header;
+    let config = Config {
+        nodes,
+        frames,
+        words,
+        pages,
+        policy,
+        budget,
+        schedule,
+        distances,
+        entries,
+        inits,
+        guests,
+    };
+    Ok((config, next))
+}
+
+#[tactic(auto, unfolding(plat_base::specs::FirstFault::text_at))]
+fn read_text(alloc: Global, bytes: &[u8]) -> Result<Config, TextFault>
+    ensures { Gives machine result (text_at bytes.now) }
+{
+    if bytes.len() > MOST_BYTES {
+        return Err(TextFault::Refused(Refused {
+            line: 0,
+            column: 0,
+            why: Why::TooLong,
+        }));
+    }
+    let mut rows = Rows::new(1, bytes);
+    let (config, _) = read_machine(alloc, &mut rows)?;
+    rows.finish()?;
+    Ok(config)
+}
+
+/// The machine of a machine text, or its first fault.
+pub fn parse(alloc: Global, bytes: &[u8]) -> Result<Config, TextFault>
+    // What is read is in the grammar of the machine.
+    ensures found { IfOk result (λ cfg. IsTextOf bytes.now (machine cfg)) }
+    // A text in the grammar of a machine is read as that machine, unless memory runs out; so it is the only one.
+    ensures only { (m : Machine) → IsMachine m → IsTextOf bytes.now m → Gives machine result (Ok m) }
+    // Which fault it is.
+    ensures exact { Gives machine result (text_at bytes.now) }
+{
+    read_text(alloc, bytes)
+}
+
+#[tactic(auto, unfolding(plat_base::specs::FirstFault::text_from))]
+fn read_text_from(alloc: Global, bytes: &[u8], first_line: u32) -> Result<(Config, u32), TextFault>
+    requires { first_line + length bytes.now < 4294967295 }
+    ensures { Gives (λ r. (machine r.0, r.1)) result (text_from first_line bytes.now) }
+{
+    let mut rows = Rows::new(first_line, bytes);
+    read_machine(alloc, &mut rows)
+}
+
+/// The machine of a machine text that ends at its line `end` inside a longer text, and the number of the line after that.
+/// The first line of `bytes` has the number `first_line`.
+pub fn parse_from(alloc: Global, bytes: &[u8], first_line: u32) -> Result<(Config, u32), TextFault>
+    requires { first_line + length bytes.now < 4294967295 }
+    // The lines before that number are in the grammar of the machine.
+    ensures found { IfOk result (λ r. IsFrontOf first_line bytes.now (machine r.0) r.1) }
+    // Where the first lines are in the grammar of a machine with a short canonical text, it is read.
+    ensures only { (m : Machine) (next : ℕ) → IsMachine m → IsTrue (is_short m) → IsFrontOf first_line bytes.now m next
+        → Gives {Y = Machine × ℕ} (λ r. (machine r.0, r.1)) result (Ok (m, next)) }
+    // Which fault it is.
+    ensures exact { Gives (λ r. (machine r.0, r.1)) result (text_from first_line bytes.now) }
+{
+    read_text_from(alloc, bytes, first_line)
+}

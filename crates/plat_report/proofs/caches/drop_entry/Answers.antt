@@ -1,0 +1,7 @@
+use Rattle.std.proofs.Common.{rules}
+use Rattle.std.proofs.lemmas.List.Edits.{map_over_more}
+use Rattle.plat_base.specs.Cache.{without_entry}
+use Rattle.plat_report.proofs.caches.drop_entry.Goals as goal
+
+pub loop-place-preserved : goal.loop-place-preserved
+loop-place-preserved c = search (rules, map_over_more (without_entry c.args.entry))

@@ -1,0 +1,116 @@
+//! The report of a history with its ends, and the summary of a generated run.
+ghost use Rattle.std.specs.Prelude.{◌≤◌, [], length};
+ghost use Rattle.std.specs.List.{flat_map};
+ghost use Rattle.plat_base.specs.Seen.{machine};
+ghost use Rattle.plat_base.specs.Report.{report, summary, report_lines, summary_lines, page_lines};
+ghost use Rattle.plat_base.specs.Rules.{Good};
+ghost use Rattle.plat_base.specs.Verdicts.{policy_answer};
+ghost use Rattle.plat_base.specs.Pages.{numbers};
+ghost use Rattle.plat_flat.specs.FlatSeen.{IsFlatOf};
+ghost use Rattle.plat_io.specs.Adds.{Adds};
+ghost use Rattle.plat_io.specs.Lines.{AddsLines};
+ghost use Rattle.plat_report.specs.Flats.{AreLegal};
+
+use crate::lines::{write_counts, write_totals};
+use crate::processors::{write_ends, write_processors};
+use crate::tallies::Tally;
+use crate::words::write_words;
+use plat_base::{Config, Ended, Item};
+use plat_io::lines::{Word, write_line};
+use plat_io::{Sink, WriteFault};
+
+/// Writes the report of a history with its ends, one line after another. It takes no memory, and goes over the items
+/// three times for each node.
+#[tactic(auto, unfolding(plat_base::specs::Report::report, plat_io::specs::Lines::text))]
+pub fn report<K: Sink>(
+    tally: Tally,
+    cfg: &Config,
+    items: &[Item],
+    ends: &[Ended],
+    sink: &mut K,
+) -> Result<(), WriteFault>
+    requires made { IsFlatOf (machine cfg.now) [] tally }
+    requires few { length items.now ≤ 2621440 }
+    requires good { Good (machine cfg.now) (policy_answer (machine cfg.now).policy) items.now ends.now }
+    ensures { Adds K.Sink sink.old sink.new result (report (machine cfg.now) items.now ends.now) }
+{
+    write_report(tally, cfg, items, ends, sink)
+}
+
+#[tactic(auto, using(plat_io::proofs::LineLemmas::lines))]
+fn write_report<K: Sink>(
+    tally: Tally,
+    cfg: &Config,
+    items: &[Item],
+    ends: &[Ended],
+    sink: &mut K,
+) -> Result<(), WriteFault>
+    requires made { IsFlatOf (machine cfg.now) [] tally }
+    requires few { length items.now ≤ 2621440 }
+    requires good { Good (machine cfg.now) (policy_answer (machine cfg.now).policy) items.now ends.now }
+    ensures { AddsLines K.Sink sink.old sink.new result (report_lines (machine cfg.now) items.now ends.now) }
+{
+    write_line(
+        sink,
+        &[
+            Word::Text(b"platinum"),
+            Word::Text(b"report"),
+            Word::Text(b"1"),
+        ],
+    )?;
+    write_processors(cfg, items, ends, sink)?;
+    write_memory(tally, cfg, items, sink)?;
+    write_counts(cfg, items, sink)?;
+    write_totals(items, sink)
+}
+
+/// Writes the lines of the words whose value after these items is not 0.
+fn write_memory<K: Sink>(
+    tally: Tally,
+    cfg: &Config,
+    items: &[Item],
+    sink: &mut K,
+) -> Result<(), WriteFault>
+    requires made { IsFlatOf (machine cfg.now) [] tally }
+    requires legal { AreLegal (machine cfg.now) items.now }
+    ensures { AddsLines K.Sink sink.old sink.new result (flat_map (page_lines (machine cfg.now) items.now) (numbers cfg.now.pages)) }
+{
+    let flat = tally.after(items);
+    write_words(cfg.pages, cfg.words, &flat, sink)
+}
+
+/// Writes the summary of the run that was generated from `n`, one line after another. It takes no memory, and needs
+/// none of what the tally holds.
+#[tactic(auto, unfolding(plat_base::specs::Report::summary, plat_io::specs::Lines::text))]
+pub fn summary<K: Sink>(
+    _tally: Tally,
+    cfg: &Config,
+    items: &[Item],
+    ends: &[Ended],
+    n: u32,
+    sink: &mut K,
+) -> Result<(), WriteFault>
+    requires made { IsFlatOf (machine cfg.now) [] _tally }
+    requires few { length items.now ≤ 2621440 }
+    requires good { Good (machine cfg.now) (policy_answer (machine cfg.now).policy) items.now ends.now }
+    ensures { Adds K.Sink sink.old sink.new result (summary n (machine cfg.now) items.now ends.now) }
+{
+    write_summary(cfg, items, ends, n, sink)
+}
+
+#[tactic(auto, using(plat_io::proofs::LineLemmas::lines))]
+fn write_summary<K: Sink>(
+    cfg: &Config,
+    items: &[Item],
+    ends: &[Ended],
+    n: u32,
+    sink: &mut K,
+) -> Result<(), WriteFault>
+    requires few { length items.now ≤ 2621440 }
+    requires good { Good (machine cfg.now) (policy_answer (machine cfg.now).policy) items.now ends.now }
+    ensures { AddsLines K.Sink sink.old sink.new result (summary_lines n (machine cfg.now) items.now ends.now) }
+{
+    write_line(sink, &[Word::Text(b"big"), Word::Number(n)])?;
+    write_ends(cfg.nodes, ends, sink)?;
+    write_totals(items, sink)
+}

@@ -1,0 +1,5 @@
+pub mod ActorsLemmas
+pub mod RandomLemmas
+pub mod ListedLemmas
+pub mod ChoiceLemmas
+pub mod NextLemmas

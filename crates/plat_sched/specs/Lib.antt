@@ -1,0 +1,3 @@
+pub mod Actors
+pub mod ScheduleSeen
+pub mod Sources

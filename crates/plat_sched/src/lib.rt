@@ -1,0 +1,10 @@
+//! Schedules: which of the live actors is next. Choosing takes no memory.
+#![tactic(auto)]
+
+mod actors;
+mod schedules;
+mod sources;
+#[cfg(test)]
+mod tests;
+
+pub use schedules::Schedule;

@@ -1,0 +1,12 @@
+pub mod LineLemmas
+pub mod NumberLemmas
+pub mod SizeLemmas
+pub mod RowLemmas
+pub mod FormLemmas
+pub mod Results
+pub mod WordLaws
+pub mod FormLaws
+pub mod SectionLaws
+pub mod RepeatedLaws
+pub mod TextLaws
+pub mod CanonLaws

@@ -1,0 +1,130 @@
+-- sections of a text: what is read of rows is spelled so, and what is spelled so is read
+use Rattle.std.proofs.Common.{◌≡◌, ℕ, suc, zero, ◌+◌, ◌<◌, ◌≤◌, Bool, true, false, not, ◌&&◌, ◌||◌, cond, List, [], ◌∷◌, ◌++◌, length, map, Option, Some, None, Result, Ok, Err, bytes_eq, refl, ap, sym, ◌∙◌, subst, arith, append_assoc, ⊎_elim}
+use Rattle.std.specs.List.{AllByRecursion, list_any}
+use Rattle.std.proofs.lemmas.Bool.{cases_Bool, and_parts, and_from, or_parts, or_from, not-true, not_from_false}
+use Rattle.std.proofs.lemmas.List.{append-nil}
+use Rattle.std.proofs.lemmas.Slice.Eq.{bytes_eq-Decides}
+use Rattle.plat_base.specs.Lines.{Word, texts}
+use Rattle.plat_base.specs.Machine.{all_differ}
+use Rattle.plat_base.specs.Forms.{◌>>=◌, Row, Rest, Stop, word_at, first_word, row_at, key, opened, line_at, once, repeated, all_with, refused, row_length, spelled_size}
+use Rattle.plat_base.specs.declared.faults.Refused.{Refused}
+use Rattle.plat_base.specs.declared.faults.Why.TheVariants.{Duplicate}
+use Rattle.plat_text.proofs.Results.{taking, then_ok, ok_is, ok_first, ok_second, stopped}
+use Rattle.plat_text.proofs.FormLemmas.{TakesWord, word_taken, TakesRow, row_taken}
+use Rattle.plat_text.proofs.WordLaws.{exactly-law}
+use Rattle.plat_text.proofs.FormLaws.{row_texts, IsTail, one-law, word_there, texts_taken}
+
+-- the word lists of rows
+abbrev pub row_lists : List Row → List (List (List ℕ))
+row_lists rows = map row_texts rows
+
+abbrev pub rest_lists : Rest → List (List (List ℕ))
+rest_lists rest = row_lists rest.rows
+
+-- the bytes of words and of lines, one more after each word
+abbrev pub list_size : List (List ℕ) → ℕ
+list_size [] = 0
+list_size (w ∷ ws) = length w + 1 + list_size ws
+
+abbrev pub lists_size : List (List (List ℕ)) → ℕ
+lists_size [] = 0
+lists_size (l ∷ ls) = list_size l + lists_size ls
+
+-- rows with these word lists were taken
+pub record Took (rest after : Rest) (lines : List (List (List ℕ))) : Type 0 where
+  pub taken : List Row
+  pub rows : rest.rows ≡ taken ++ after.rows
+  pub stop : after.stop ≡ rest.stop
+  pub given : after.given ≡ rest.given + lists_size lines
+  pub lists : row_lists taken ≡ lines
+
+pub lists_size-append : (ls ms : List (List (List ℕ))) → lists_size (ls ++ ms) ≡ lists_size ls + lists_size ms
+lists_size-append [] ms = omega arith
+lists_size-append (l ∷ ls) ms = omega (arith, lists_size-append ls ms)
+
+pub row_lists-append : (rs ss : List Row) → row_lists (rs ++ ss) ≡ row_lists rs ++ row_lists ss
+row_lists-append [] ss = refl
+row_lists-append (r ∷ rs) ss = ap (λ k. row_texts r ∷ k) (row_lists-append rs ss)
+
+pub took_none : (rest : Rest) → Took rest rest []
+took_none rest = record { taken = []; rows = refl; stop = refl; given = omega arith; lists = refl }
+
+pub took_then : (a b c : Rest) (ls ms : List (List (List ℕ))) → Took a b ls → Took b c ms → Took a c (ls ++ ms)
+took_then a b c ls ms t u = record {
+  taken = t.taken ++ u.taken;
+  rows = t.rows ∙ ap (λ k. t.taken ++ k) u.rows ∙ sym (append_assoc t.taken u.taken c.rows);
+  stop = u.stop ∙ t.stop;
+  given = omega (arith, t.given, u.given, lists_size-append ls ms);
+  lists = row_lists-append t.taken u.taken ∙ rw (t.lists, u.lists) refl;
+}
+
+pub took_lists : (a b : Rest) (ls : List (List (List ℕ))) → Took a b ls → rest_lists a ≡ ls ++ rest_lists b
+took_lists a b ls t = ap row_lists t.rows ∙ row_lists-append t.taken b.rows ∙ ap (λ k. k ++ rest_lists b) t.lists
+
+-- a section: as a form, over rows; what follows it may have to begin in some way
+pub record IsSection {A B : Type 0} (read : Rest → Result (A × Rest) Refused) (sees : A → B) (spell : B → List (List (List ℕ))) (fits : B → Type 0) (stops : List (List (List ℕ)) → Type 0) : Type 0 where
+  pub takes : (rest : Rest) (x : A) (after : Rest) → read rest ≡ Ok (x, after) → Took rest after (spell (sees x)) × fits (sees x)
+  pub again : (rest : Rest) (y : B) (more : List (List (List ℕ))) → fits y → stops more → rest_lists rest ≡ spell y ++ more
+      → (x : A) × (after : Rest) × (read rest ≡ Ok (x, after)) × (sees x ≡ y) × (rest_lists after ≡ more)
+
+-- ---- one row
+
+pub spelled-size : (ws : List Word) → spelled_size ws ≡ list_size (texts ws)
+spelled-size [] = refl
+spelled-size (w ∷ ws) = ap (λ k. length w.bytes + 1 + k) (spelled-size ws)
+
+pub took_row : (rest : Rest) (row : Row) (after : Rest) → TakesRow rest row after → Took rest after (row_texts row ∷ [])
+took_row rest row after t = record {
+  taken = row ∷ [];
+  rows = t.rows;
+  stop = t.stop;
+  given = omega (arith, t.given, spelled-size row.words);
+  lists = refl;
+}
+
+pub row_there : (rest : Rest) (line : List (List ℕ)) (more : List (List (List ℕ))) → rest_lists rest ≡ line ∷ more
+    → (row : Row) × (after : Rest) × (row_at rest ≡ Ok (row, after)) × (row_texts row ≡ line) × (rest_lists after ≡ more)
+row_there rest line more e = by_rows rest.rows e where
+  by_rows : (rows : List Row) → row_lists rows ≡ line ∷ more
+      → (row : Row) × (after : Rest) × (row_at (record rest { rows = rows }) ≡ Ok (row, after)) × (row_texts row ≡ line) × (rest_lists after ≡ more)
+  by_rows [] e = absurd cc
+  by_rows (row ∷ rows) e = (row, record rest { given = rest.given + row_length row; rows = rows }, refl, cc, cc)
+
+module _ (word : List ℕ) where
+  key-takes : (row : Row) (after : Row) (u : Unit {0}) → key word row ≡ Ok (u, after) → row_texts row ≡ word ∷ row_texts after
+  key-takes row after u e = ((one-law (exactly-law word)).takes row u after e).0
+
+  pub opened-takes : (rest : Rest) (row : Row) (after : Rest) → opened word rest ≡ Ok (row, after) → Took rest after ((word ∷ row_texts row) ∷ [])
+  opened-takes rest row after e =
+      taking (row_at rest) _ _ e (λ r r-is e1. taking (key word r.0) _ _ e1 (λ o o-is e2.
+      let row_is : o.1 ≡ row = ok_first (o.1, r.1) (row, after) e2 in
+      let after_is : r.1 ≡ after = ok_second (o.1, r.1) (row, after) e2 in
+      rw (← row_is, ← after_is, ← key-takes r.0 o.1 o.0 o-is) (took_row rest r.0 r.1 (row_taken rest r.0 r.1 r-is))))
+
+  pub opened-again : (rest : Rest) (words : List (List ℕ)) (more : List (List (List ℕ))) → rest_lists rest ≡ (word ∷ words) ∷ more
+      → (row : Row) × (after : Rest) × (opened word rest ≡ Ok (row, after)) × (row_texts row ≡ words) × (rest_lists after ≡ more)
+  opened-again rest words more e =
+      let t = row_there rest (word ∷ words) more e in
+      let u = (one-law (exactly-law word)).again t.0 (tt {0}) words (tt {0}) t.3 in
+      (u.1, t.1, then_ok (row_at rest) _ (t.0, t.1) _ t.2 (then_ok (key word t.0) _ (u.0, u.1) _ u.2 refl), u.4, t.4)
+
+  -- a line with this first word
+  pub line-law : {A B : Type 0} {read : Row → Result A Refused} {sees : A → B} {spell : B → List (List ℕ)} {fits : B → Type 0} → IsTail read sees spell fits
+      → IsSection (line_at word read) sees (λ y. (word ∷ spell y) ∷ []) fits (λ _. Unit {0})
+  line-law {read = read} {sees = sees} {spell = spell} {fits = fits} law = record {
+    takes = λ rest x after e. taking (opened word rest) _ _ e (λ r r-is e1. taking (read r.0) _ _ e1 (λ v v-is e2.
+        let value : v ≡ x = ok_first (v, r.1) (x, after) e2 in
+        let after_is : r.1 ≡ after = ok_second (v, r.1) (x, after) e2 in
+        let t = law.takes r.0 v v-is in
+        rw (← value, ← after_is, ← t.0) (opened-takes rest r.0 r.1 r-is, t.1)));
+    again = λ rest y more h s e.
+        let t = opened-again rest (spell y) more e in
+        let u = law.again t.0 y h t.3 in
+        (u.0, t.1, then_ok (opened word rest) _ (t.0, t.1) _ t.2 (then_ok (read t.0) _ u.0 _ u.1 refl), u.2, t.4);
+  }
+
+-- a section without places gives just its value
+pub again_exactly : {B : Type 0} {read : Rest → Result (B × Rest) Refused} {spell : B → List (List (List ℕ))} {fits : B → Type 0} {stops : List (List (List ℕ)) → Type 0}
+    → IsSection read (λ x. x) spell fits stops → (rest : Rest) (y : B) (more : List (List (List ℕ))) → fits y → stops more → rest_lists rest ≡ spell y ++ more
+    → (after : Rest) × (read rest ≡ Ok (y, after)) × (rest_lists after ≡ more)
+again_exactly law rest y more h s e = let t = law.again rest y more h s e in (t.1, t.2 ∙ ap (λ k. Ok (k, t.1)) t.3, t.4)
