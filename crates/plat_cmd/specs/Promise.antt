@@ -1,5 +1,5 @@
 -- what the commands promise
-use Rattle.std.specs.Prelude.{◌≡◌, ◌≢◌, ◌⊎◌, ℕ, ◌<◌, false, List, [], Option, IfSome, IsTrue, Result, Ok, Err}
+use Rattle.std.specs.Prelude.{◌≡◌, ◌≢◌, ◌⊎◌, ℕ, ◌<◌, ◌≤◌, false, List, [], Option, IfSome, IsTrue, Result, Ok, Err}
 use Rattle.plat_base.specs.Machine.{Machine, is_machine}
 use Rattle.plat_base.specs.Coarse.{ended_of}
 use Rattle.plat_base.specs.Schedule.{coarse_run}
@@ -17,12 +17,14 @@ use Rattle.plat_base.specs.declared.faults.Refused.{Refused}
 use Rattle.plat_base.specs.declared.statuses.Status.{Status}
 use Rattle.plat_base.specs.declared.statuses.Status.TheVariants as status
 use Rattle.plat_io.specs.Adds.{Adds}
-use Rattle.plat_io.specs.Streams.{HasRisen}
+use Rattle.plat_io.specs.Streams.{HasRisen, IsAtEnd}
 use Rattle.plat_io.specs.declared.faults.WriteFault.{WriteFault}
 use Rattle.plat_io.specs.declared.sinks.Sink.{Ghosts}
 use Rattle.plat_io.specs.declared.sources.Source.{Ghosts as Reader}
 use Rattle.plat_cmd.specs.declared.words.Command.{Command}
 use Rattle.plat_cmd.specs.declared.words.Command.TheVariants as command
+use Rattle.plat_cmd.specs.declared.words.Grain.TheVariants as grain
+use Rattle.plat_cmd.specs.declared.words.Output.TheVariants as output
 use Rattle.plat_cmd.specs.declared.words.WordsFault.{WordsFault}
 use Rattle.plat_cmd.specs.declared.outcomes.Stop.{Stop}
 use Rattle.plat_cmd.specs.declared.outcomes.Stop.TheVariants as stop
@@ -90,10 +92,12 @@ pub record HasStopped {K : Type 0} (stopped : Stop) (old new : K) (now : Status)
   pub history : kept ≡ []
   pub sink : new ≡ old
 
--- the machine of what a source told, if it told it
-pub record IsToldAs (told : Option (List ℕ)) (m : Machine) : Type 0 where
+-- a source was read to its end, and what it told, if it told it, is a text that is read as the machine m
+pub record IsToldAs (told left : Option (List ℕ)) (m : Machine) : Type 0 where
   pub limits : IsTrue (is_machine m)
   pub text : IfSome told (λ bytes. IsTextOf bytes m)
+  pub read : IfSome told (λ bytes. text_at bytes ≡ Ok m)
+  pub all : IsAtEnd left
 
 -- ---- the commands
 
@@ -108,9 +112,10 @@ IsNoRefusal now = (now ≡ status.ReadFault) ⊎ (now ≡ status.OutOfMemory)
 -- what a command that reads a machine text does: what is done with its machine, or why it stopped
 pub record Reads {S K : Type 0} (source : Reader S) (before after : S) (old new : K) (now : Status) (kept : List Item) (Done : Machine → Type 0) : Type 0 where
   pub found :
-      ((m : Machine) × IsToldAs (source.left before) m × Done m)
+      ((m : Machine) × IsToldAs (source.left before) (source.left after) m × Done m)
       ⊎ ((stopped : Stop) × IsStop (source.left before) (source.faults before) (source.faults after) stopped × HasStopped stopped old new now kept)
   pub only : IfTextOf (source.left before) (λ m. Done m ⊎ IsNoRefusal now)
+  pub count : source.faults before ≤ source.faults after
 
 -- `check`
 abbrev pub Checks : {S K : Type 0} → Reader S → Ghosts K → S → S → K → K → Status → List Item → Type 0
@@ -130,5 +135,5 @@ pub record HasNoCommand {S K : Type 0} (before after : S) (old new : K) (now : S
 -- what the program does with the command that its words name
 abbrev pub Promised : {S K : Type 0} → Reader S → Ghosts K → Result Command WordsFault → S → S → K → K → Status → List Item → Type 0
 Promised source sink (Ok command.Check) before after old new now kept = Checks source sink before after old new now kept
-Promised source sink (Ok (command.Sim grain output)) before after old new now kept = Simulates source sink before after old new now kept
+Promised source sink (Ok (command.Sim grain.Coarse output.Report)) before after old new now kept = Simulates source sink before after old new now kept
 Promised source sink (Err fault) before after old new now kept = HasNoCommand before after old new now kept

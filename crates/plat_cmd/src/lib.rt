@@ -6,6 +6,8 @@ mod outcomes;
 mod readings;
 mod runs;
 mod sims;
+#[cfg(test)]
+mod tests;
 mod tops;
 mod words;
 
