@@ -16,6 +16,7 @@ pub mod Done
 pub mod Coarse
 pub mod Schedule
 pub mod Rules
+pub mod Histories
 pub mod Cache
 pub mod Text
 pub mod Canon

@@ -10,7 +10,7 @@ use Rattle.plat_base.specs.declared.endings.Ended.{Ended}
 use Rattle.plat_base.specs.declared.items.Item.{Item}
 use Rattle.plat_coarse.specs.CoarseSeen.{CoarseSeen}
 use Rattle.plat_laws.proofs.TurnLaws.{run_good, run_not_cut, run_no_frames}
-use Rattle.plat_cmd.specs.Promise.{IsSound}
+use Rattle.plat_cmd.specs.Promise.{history_of, ends_of}
 use Rattle.plat_sched.specs.Actors.{actors_of}
 use Rattle.plat_sched.specs.ScheduleSeen.{ScheduleSeen, choice, after_choice, actor_chosen}
 use Rattle.plat_sched.proofs.NextLemmas.{choice_is}
@@ -42,14 +42,6 @@ next_is m n x y k same before turned =
     turned
     ∙ (ap (λ (i : Machine). scheduled_turn i (policy_answer i.policy) x) same ∙ ap (scheduled_turn m (policy_answer m.policy)) before
     ∙ ap (scheduled m (policy_answer m.policy)) (sym more))
-
--- the coarse run of a machine is sound
-pub run_is_sound : (m : Machine) → IsTrue (is_machine m) → IsSound m
-run_is_sound m limits = record {
-  good = run_good m (policy_answer m.policy) limits;
-  over = λ q inside. run_not_cut m (policy_answer m.policy) q limits inside;
-  fed = λ enough q inside. run_no_frames m (policy_answer m.policy) q limits enough inside;
-}
 
 -- what holds of a history and ends holds of equal ones
 pub same_items : (P : List Item → List Ended → Type 0) (is js : List Item) (es fs : List Ended) → is ≡ js → es ≡ fs → P js fs → P is es

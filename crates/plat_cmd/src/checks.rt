@@ -1,7 +1,6 @@
 //! Checks of machine texts.
 ghost use Rattle.plat_base.specs.Seen.{machine};
 ghost use Rattle.plat_cmd.specs.Promise.{HasPrinted};
-ghost use Rattle.std.specs.Prelude.{◌≡◌, []};
 
 use crate::outcomes::{Outcome, status_after, without_run};
 use plat_base::{Config, Status};
@@ -11,8 +10,7 @@ use std::alloc::Global;
 
 /// Writes the canonical text of a machine.
 pub fn print<K: Sink>(alloc: Global, cfg: &Config, sink: &mut K) -> Outcome
-    ensures printed { HasPrinted K.Sink (machine cfg.now) sink.old sink.new result.status }
-    ensures kept { result.kept.items ≡ [] }
+    ensures { HasPrinted K.Sink (machine cfg.now) sink.old sink.new result.status result.kept.items }
 {
     let written = print_machine(cfg, sink);
     without_run(alloc, status_after(Status::Done, written))

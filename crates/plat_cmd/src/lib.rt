@@ -3,6 +3,7 @@
 
 mod checks;
 mod outcomes;
+mod performs;
 mod readings;
 mod runs;
 mod sims;

@@ -2,7 +2,7 @@
 ghost use Rattle.std.specs.Prelude.{◌≡◌, [], false};
 ghost use Rattle.plat_base.specs.Statuses.{status_of as status_of_ends};
 ghost use Rattle.plat_base.specs.Statuses.{ends_as};
-ghost use Rattle.plat_cmd.specs.Promise.{stop_status, status_after};
+ghost use Rattle.plat_cmd.specs.Steps.{stop_status, status_after};
 
 use plat_base::{End, Ended, Item, List, Refused, Status};
 use plat_io::WriteFault;

@@ -5,7 +5,7 @@ ghost use Rattle.plat_base.specs.Seen.{machine};
 ghost use Rattle.plat_base.specs.FirstFault.{text_at};
 ghost use Rattle.plat_base.specs.Grammar.{IsMachine, IsTextOf};
 ghost use Rattle.plat_io.specs.Streams.{IsAtEnd};
-ghost use Rattle.plat_cmd.specs.Promise.{IsStop, AcceptsAs, read_as};
+ghost use Rattle.plat_cmd.specs.Steps.{IsStop, AcceptsAs, read_as};
 
 use crate::outcomes::Stop;
 use plat_base::{Config, Refused, TextFault, Why};

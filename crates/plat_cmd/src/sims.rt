@@ -4,7 +4,8 @@ ghost use Rattle.plat_base.specs.Machine.{Machine};
 ghost use Rattle.plat_base.specs.Seen.{machine};
 ghost use Rattle.plat_base.specs.declared.statuses.Status.TheVariants as statuses;
 ghost use Rattle.plat_flat.specs.FlatSeen.{IsFlatOf};
-ghost use Rattle.plat_cmd.specs.Promise.{HasRun, HasStopped, history_of, ends_of};
+ghost use Rattle.plat_cmd.specs.Promise.{HasRun, history_of, ends_of};
+ghost use Rattle.plat_cmd.specs.Steps.{HasStopped};
 ghost use Rattle.plat_cmd.specs.declared.outcomes.Stop.TheVariants as stops;
 
 use crate::outcomes::{Outcome, status_after, status_of, without_run};

@@ -1,6 +1,6 @@
 //! Whole commands over sources and sinks in memory.
-use crate::{check, platinum, sim};
-use plat_base::{List, OutOfMemory, Status};
+use crate::{Grain, Outcome, Output, check, platinum, sim};
+use plat_base::{List, OutOfMemory, Refused, Status, Why};
 use plat_io::{MemorySink, MemorySource};
 use std::alloc::Global;
 use std::test::Fail;
@@ -34,18 +34,92 @@ applied interrupt 0 activation 0
 items 3
 ";
 
-/// The list of the first call alone.
-fn first(alloc: Global) -> Result<List<u32>, OutOfMemory> {
+const FOR_EVER: &[u8] = b"platinum 1
+nodes 1
+frames 4
+words 4
+pages 1
+policy place
+budget 3
+schedule robin
+map 0 0 0
+guest 0
+label a
+jump a
+end
+";
+
+const JUST_ENOUGH: &[u8] = b"platinum 1
+nodes 1
+frames 4
+words 4
+pages 1
+policy place
+budget 3
+schedule robin
+map 0 0 0
+guest 0
+set r1 1
+set r1 1
+halt
+end
+";
+
+const TRAPS: &[u8] = b"platinum 1
+nodes 1
+frames 4
+words 4
+pages 1
+policy place
+budget 3
+schedule robin
+map 0 0 0
+guest 0
+load r1 4
+end
+";
+
+const STARVES: &[u8] = b"platinum 1
+nodes 1
+frames 1
+words 4
+pages 2
+policy place
+budget 100
+schedule robin
+map 0 0 0
+map 0 1 1
+guest 0
+load r1 0
+load r1 4
+halt
+end
+";
+
+/// The list of one call.
+fn failing(alloc: Global, call: u32) -> Result<List<u32>, OutOfMemory> {
     let mut fails = List::with_room(alloc, 1)?;
-    fails.push(1);
+    fails.push(call);
     Ok(fails)
+}
+
+fn source_of(alloc: Global, text: &[u8]) -> Result<MemorySource, OutOfMemory> {
+    MemorySource::new(alloc, text, List::new(alloc))
+}
+
+/// `sim coarse` of a text, with all the memory and room that it wants.
+fn simulated(alloc: Global, text: &[u8]) -> Result<Outcome, OutOfMemory> {
+    let mut source = source_of(alloc, text)?;
+    let mut sink = MemorySink::new(alloc, 1000, List::new(alloc))?;
+    Ok(sim(alloc, Grain::Coarse, Output::Report, &mut source, &mut sink))
 }
 
 #[test]
 fn sim_reports_the_smallest_run(rt: HostRuntime) -> Result<(), Fail> {
-    let mut source = MemorySource::new(rt.alloc(), SMALLEST, List::new(rt.alloc()))?;
+    let mut source = source_of(rt.alloc(), SMALLEST)?;
     let mut sink = MemorySink::new(rt.alloc(), 1000, List::new(rt.alloc()))?;
-    let outcome = sim(rt.alloc(), &mut source, &mut sink);
+    let words: [&str; 2] = ["sim", "coarse"];
+    let outcome = platinum(rt.alloc(), words.as_slice(), &mut source, &mut sink);
     assert_eq!(rt; outcome.status, Status::Done);
     assert_eq!(rt; outcome.kept.len(), 3);
     assert_eq!(rt; sink.bytes(), REPORT);
@@ -54,7 +128,7 @@ fn sim_reports_the_smallest_run(rt: HostRuntime) -> Result<(), Fail> {
 
 #[test]
 fn check_writes_the_canonical_text(rt: HostRuntime) -> Result<(), Fail> {
-    let mut source = MemorySource::new(rt.alloc(), SMALLEST, List::new(rt.alloc()))?;
+    let mut source = source_of(rt.alloc(), SMALLEST)?;
     let mut sink = MemorySink::new(rt.alloc(), 1000, List::new(rt.alloc()))?;
     let outcome = check(rt.alloc(), &mut source, &mut sink);
     assert_eq!(rt; outcome.status, Status::Done);
@@ -63,32 +137,103 @@ fn check_writes_the_canonical_text(rt: HostRuntime) -> Result<(), Fail> {
 }
 
 #[test]
-fn a_read_that_fails_is_a_read_fault(rt: HostRuntime) -> Result<(), Fail> {
-    let mut source = MemorySource::new(rt.alloc(), SMALLEST, first(rt.alloc())?)?;
-    let mut sink = MemorySink::new(rt.alloc(), 1000, List::new(rt.alloc()))?;
-    let outcome = sim(rt.alloc(), &mut source, &mut sink);
-    assert_eq!(rt; outcome.status, Status::ReadFault);
-    assert_eq!(rt; sink.bytes(), b"".as_slice());
+fn the_status_follows_from_the_ends(rt: HostRuntime) -> Result<(), Fail> {
+    let runs: [(&[u8], Status, usize); 4] = [
+        (FOR_EVER, Status::Spent, 0),
+        (JUST_ENOUGH, Status::Done, 0),
+        (TRAPS, Status::Done, 0),
+        (STARVES, Status::NoFrames, 2),
+    ];
+    for (text, status, items) in runs {
+        let outcome = simulated(rt.alloc(), text)?;
+        assert_eq!(rt; outcome.status, status);
+        assert_eq!(rt; outcome.kept.len(), items);
+    }
     Ok(())
 }
 
 #[test]
-fn a_write_that_fails_is_a_write_fault(rt: HostRuntime) -> Result<(), Fail> {
-    let mut source = MemorySource::new(rt.alloc(), SMALLEST, List::new(rt.alloc()))?;
-    let mut sink = MemorySink::new(rt.alloc(), 15, List::new(rt.alloc()))?;
-    let outcome = sim(rt.alloc(), &mut source, &mut sink);
+fn a_text_is_refused_with_its_first_fault(rt: HostRuntime) -> Result<(), Fail> {
+    let texts: [(&[u8], u32, u32, Why); 3] = [
+        (b"", 1, 1, Why::Missing),
+        (b"platinum 1\nnodes 9\n", 2, 7, Why::OutOfRange),
+        (b"platinum 1\nnodes 1", 2, 8, Why::Unended),
+    ];
+    for (text, line, column, why) in texts {
+        let outcome = simulated(rt.alloc(), text)?;
+        assert_eq!(rt;
+            outcome.status,
+            Status::Refused(Refused { line, column, why })
+        );
+    }
+    Ok(())
+}
+
+#[test]
+fn a_text_may_be_too_long(rt: HostRuntime) -> Result<(), Fail> {
+    let text = vec![in rt.alloc(); b' '; 1_048_577]?;
+    let outcome = simulated(rt.alloc(), text.as_slice())?;
+    let refused = Refused {
+        line: 0,
+        column: 0,
+        why: Why::TooLong,
+    };
+    assert_eq!(rt; outcome.status, Status::Refused(refused));
+    Ok(())
+}
+
+#[test]
+fn a_read_that_fails_in_mid_stream_is_a_read_fault(rt: HostRuntime) -> Result<(), Fail> {
+    for call in 1..3 {
+        let mut source = MemorySource::new(rt.alloc(), SMALLEST, failing(rt.alloc(), call)?)?;
+        let mut sink = MemorySink::new(rt.alloc(), 1000, List::new(rt.alloc()))?;
+        let outcome = check(rt.alloc(), &mut source, &mut sink);
+        assert_eq!(rt; outcome.status, Status::ReadFault);
+        assert_eq!(rt; sink.bytes(), b"".as_slice());
+    }
+    Ok(())
+}
+
+#[test]
+fn a_write_that_fails_in_mid_stream_is_a_write_fault(rt: HostRuntime) -> Result<(), Fail> {
+    let mut source = source_of(rt.alloc(), SMALLEST)?;
+    let mut sink = MemorySink::new(rt.alloc(), 1000, failing(rt.alloc(), 6)?)?;
+    let words: [&str; 2] = ["sim", "coarse"];
+    let outcome = platinum(rt.alloc(), words.as_slice(), &mut source, &mut sink);
     assert_eq!(rt; outcome.status, Status::WriteFault);
-    assert_eq!(rt; sink.bytes(), b"platinum report".as_slice());
+    assert_eq!(rt; sink.bytes(), b"platinum report 1".as_slice());
+    Ok(())
+}
+
+#[test]
+fn a_full_sink_is_a_write_fault(rt: HostRuntime) -> Result<(), Fail> {
+    let mut source = source_of(rt.alloc(), SMALLEST)?;
+    let mut sink = MemorySink::new(rt.alloc(), 15, List::new(rt.alloc()))?;
+    let outcome = check(rt.alloc(), &mut source, &mut sink);
+    assert_eq!(rt; outcome.status, Status::WriteFault);
+    assert_eq!(rt; sink.bytes(), b"platinum 1\nnode".as_slice());
     Ok(())
 }
 
 #[test]
 fn other_words_are_bad_words(rt: HostRuntime) -> Result<(), Fail> {
-    let mut source = MemorySource::new(rt.alloc(), SMALLEST, List::new(rt.alloc()))?;
-    let mut sink = MemorySink::new(rt.alloc(), 15, List::new(rt.alloc()))?;
-    let words: [&str; 2] = ["sim", "fine"];
-    let outcome = platinum(rt.alloc(), words.as_slice(), &mut source, &mut sink);
-    assert_eq!(rt; outcome.status, Status::BadWords);
-    assert_eq!(rt; source.left(), SMALLEST);
+    let none: [&str; 0] = [];
+    let lists: [&[&str]; 7] = [
+        &["sim", "medium"],
+        &["sim"],
+        &["run", "fast"],
+        &["gen", "-1"],
+        &["gen", "007"],
+        &["--help"],
+        none.as_slice(),
+    ];
+    for words in lists {
+        let mut source = source_of(rt.alloc(), SMALLEST)?;
+        let mut sink = MemorySink::new(rt.alloc(), 15, List::new(rt.alloc()))?;
+        let outcome = platinum(rt.alloc(), words, &mut source, &mut sink);
+        assert_eq!(rt; outcome.status, Status::BadWords);
+        assert_eq!(rt; source.left(), SMALLEST);
+        assert_eq!(rt; sink.bytes(), b"".as_slice());
+    }
     Ok(())
 }

@@ -1,36 +1,55 @@
 //! The commands, and the top call.
+ghost use Rattle.std.specs.Prelude.{◌≡◌, ◌⊎◌, ◌≤◌, true, false, [], IfOk, IfErr, IfSome, IsTrue, Err};
+ghost use Rattle.plat_base.specs.FirstFault.{text_at};
+ghost use Rattle.plat_base.specs.Statuses.{is_silent, refusal_of};
+ghost use Rattle.plat_base.specs.declared.statuses.Status.TheVariants as statuses;
+ghost use Rattle.plat_io.specs.Streams.{HasRisen};
 ghost use Rattle.plat_cmd.specs.Commands.{read_of, texts_of};
-ghost use Rattle.plat_cmd.specs.Promise.{Simulates, Checks, Promised};
+ghost use Rattle.plat_cmd.specs.Promise.{HasDone, HasRead, IfTextOf, IsNoRefusal, may_end};
+ghost use Rattle.plat_cmd.specs.declared.words.Command.TheVariants as commands;
 
-use crate::checks::print;
-use crate::outcomes::{Outcome, stop_status, without_run};
-use crate::readings::read_machine;
-use crate::sims::simulate;
-use crate::words::{Command, WordsFault, read_words};
+use crate::outcomes::{Outcome, without_run};
+use crate::performs::perform;
+use crate::words::{Command, Grain, Output, WordsFault, read_words};
 use plat_base::Status;
 use plat_io::{Sink, Source};
 use std::alloc::Global;
 
-/// `check`: reads a machine text and writes its canonical text. The status is Done, Refused, ReadFault, WriteFault or
-/// OutOfMemory.
+/// `check`: reads a machine text, and writes its canonical text.
 pub fn check<S: Source, K: Sink>(alloc: Global, source: &mut S, sink: &mut K) -> Outcome
-    ensures checks { Checks S.Source K.Sink source.old source.new sink.old sink.new result.status result.kept.items }
+    ensures done { is_silent result.status ≡ false → HasRead (S.left source.old) (S.left source.new) (λ m. HasDone commands.Check K.Sink m sink.old sink.new result.status result.kept.items) }
+    ensures accepted { IfTextOf (S.left source.old) (λ m. HasDone commands.Check K.Sink m sink.old sink.new result.status result.kept.items ⊎ IsNoRefusal result.status) }
+    ensures ends { IsTrue (may_end commands.Check result.status) }
+    ensures refused { IfSome (refusal_of result.status) (λ refused. IfSome (S.left source.old) (λ bytes. text_at bytes ≡ Err refused)) }
+    ensures read_fault { result.status ≡ statuses.ReadFault → HasRisen (S.faults source.old) (S.faults source.new) }
+    ensures write_fault { result.status ≡ statuses.WriteFault → HasRisen (K.faults sink.old) (K.faults sink.new) }
+    ensures silent { is_silent result.status ≡ true → sink.new ≡ sink.old }
+    ensures nothing_kept { is_silent result.status ≡ true → result.kept.items ≡ [] }
+    ensures count { S.faults source.old ≤ S.faults source.new }
 {
-    match read_machine(alloc, source) {
-        Ok(cfg) => print(alloc, &cfg, sink),
-        Err(stop) => without_run(alloc, stop_status(stop)),
-    }
+    perform(alloc, Command::Check, source, sink)
 }
 
-/// `sim coarse`: reads a machine text, makes its coarse run, and writes the report. The status is that of the run where
-/// all is written, and else Refused, ReadFault, WriteFault or OutOfMemory.
-pub fn sim<S: Source, K: Sink>(alloc: Global, source: &mut S, sink: &mut K) -> Outcome
-    ensures simulates { Simulates S.Source K.Sink source.old source.new sink.old sink.new result.status result.kept.items }
+/// `sim`: reads a machine text, makes its run, and writes its report. What comes after the run is the status of its ends:
+/// NoFrames where some processor found no frame, else Spent where some processor spent its budget, else Done.
+pub fn sim<S: Source, K: Sink>(
+    alloc: Global,
+    grain: Grain,
+    output: Output,
+    source: &mut S,
+    sink: &mut K,
+) -> Outcome
+    ensures done { is_silent result.status ≡ false → HasRead (S.left source.old) (S.left source.new) (λ m. HasDone (commands.Sim grain output) K.Sink m sink.old sink.new result.status result.kept.items) }
+    ensures accepted { IfTextOf (S.left source.old) (λ m. HasDone (commands.Sim grain output) K.Sink m sink.old sink.new result.status result.kept.items ⊎ IsNoRefusal result.status) }
+    ensures ends { IsTrue (may_end (commands.Sim grain output) result.status) }
+    ensures refused { IfSome (refusal_of result.status) (λ refused. IfSome (S.left source.old) (λ bytes. text_at bytes ≡ Err refused)) }
+    ensures read_fault { result.status ≡ statuses.ReadFault → HasRisen (S.faults source.old) (S.faults source.new) }
+    ensures write_fault { result.status ≡ statuses.WriteFault → HasRisen (K.faults sink.old) (K.faults sink.new) }
+    ensures silent { is_silent result.status ≡ true → sink.new ≡ sink.old }
+    ensures nothing_kept { is_silent result.status ≡ true → result.kept.items ≡ [] }
+    ensures count { S.faults source.old ≤ S.faults source.new }
 {
-    match read_machine(alloc, source) {
-        Ok(cfg) => simulate(alloc, cfg, sink),
-        Err(stop) => without_run(alloc, stop_status(stop)),
-    }
+    perform(alloc, Command::Sim { grain, output }, source, sink)
 }
 
 /// The program: the command that these words name, the program's name not among them.
@@ -40,11 +59,20 @@ pub fn platinum<S: Source, K: Sink>(
     source: &mut S,
     sink: &mut K,
 ) -> Outcome
-    ensures promised { Promised S.Source K.Sink (read_of (texts_of words.now)) source.old source.new sink.old sink.new result.status result.kept.items }
+    ensures done { is_silent result.status ≡ false → IfOk (read_of (texts_of words.now)) (λ command. HasRead (S.left source.old) (S.left source.new) (λ m. HasDone command K.Sink m sink.old sink.new result.status result.kept.items)) }
+    ensures accepted { IfOk (read_of (texts_of words.now)) (λ command. IfTextOf (S.left source.old) (λ m. HasDone command K.Sink m sink.old sink.new result.status result.kept.items ⊎ IsNoRefusal result.status)) }
+    ensures ends { IfOk (read_of (texts_of words.now)) (λ command. IsTrue (may_end command result.status)) }
+    ensures bad_words { IfErr (read_of (texts_of words.now)) (λ _. result.status ≡ statuses.BadWords) }
+    ensures unread { result.status ≡ statuses.BadWords → source.new ≡ source.old }
+    ensures refused { IfSome (refusal_of result.status) (λ refused. IfSome (S.left source.old) (λ bytes. text_at bytes ≡ Err refused)) }
+    ensures read_fault { result.status ≡ statuses.ReadFault → HasRisen (S.faults source.old) (S.faults source.new) }
+    ensures write_fault { result.status ≡ statuses.WriteFault → HasRisen (K.faults sink.old) (K.faults sink.new) }
+    ensures silent { is_silent result.status ≡ true → sink.new ≡ sink.old }
+    ensures nothing_kept { is_silent result.status ≡ true → result.kept.items ≡ [] }
+    ensures count { S.faults source.old ≤ S.faults source.new }
 {
     match read_words(alloc, words) {
-        Ok(Command::Check) => check(alloc, source, sink),
-        Ok(Command::Sim { .. }) => sim(alloc, source, sink),
+        Ok(command) => perform(alloc, command, source, sink),
         Err(WordsFault::BadWords) => without_run(alloc, Status::BadWords),
         Err(WordsFault::OutOfMemory) => without_run(alloc, Status::OutOfMemory),
     }

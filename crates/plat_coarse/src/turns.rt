@@ -1,6 +1,7 @@
 //! The coarse run, turn by turn.
 ghost use Rattle.std.specs.Prelude.{◌≡◌, ◌+◌, ◌*◌, ◌<◌, ◌≤◌, ◌++◌, [], length, true, IfOk, IsTrue};
 ghost use Rattle.plat_base.specs.Coarse.{coarse_start, is_live as is_live_of, ended_of, turn as turn_of};
+ghost use Rattle.plat_base.specs.Rules.{Good};
 ghost use Rattle.plat_base.specs.Seen.{machine};
 ghost use Rattle.plat_base.specs.Verdicts.{policy_answer};
 ghost use Rattle.plat_laws.specs.Room.{room as room_of, passes};
@@ -146,7 +147,8 @@ impl Coarse {
 
     /// The history so far.
     pub fn history(&self) -> &[Item]
-        ensures { result.now ≡ self.now.run.history }
+        ensures items { result.now ≡ self.now.run.history }
+        ensures good { Good self.now.machine (policy_answer self.now.machine.policy) result.now self.now.run.ends }
     {
         self.chronicle.items()
     }

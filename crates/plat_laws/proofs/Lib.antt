@@ -12,3 +12,4 @@ pub mod TurnItemLaws
 pub mod RunLaws
 pub mod TurnLaws
 pub mod RoomLaws
+pub mod HistoryLaws

@@ -5,7 +5,7 @@ use thiserror::Error;
 /// What the program says of a status other than Done.
 #[derive(Debug, Drop, Error)]
 pub enum Fault {
-    #[error("item {item}: {rule:?}")]
+    #[error("item {item} breaks {rule:?}")]
     History { item: u32, rule: Rule },
     #[error("line {line} column {column}: {why:?}")]
     Refused { line: u32, column: u32, why: Why },
@@ -13,7 +13,7 @@ pub enum Fault {
     NoFrames,
     #[error("a processor spent its budget")]
     Spent,
-    #[error("the event limit was reached")]
+    #[error("event limit reached")]
     EventLimit,
     #[error("input could not be read")]
     ReadFault,

@@ -10,10 +10,19 @@ use plat_io::{StdSink, StdSource};
 use std::process::ExitCode;
 use std::{env, io};
 
+/// The status where the words cannot be had: they are none of ours where one of them is no text.
+fn status_of_words(error: io::ErrorKind) -> Status {
+    match error {
+        io::ErrorKind::InvalidData => Status::BadWords,
+        _ => Status::OutOfMemory,
+    }
+}
+
 /// Makes the command that the words name.
 fn status_of(rt: &HostRuntime) -> Status {
-    let Ok(args) = env::args(rt) else {
-        return Status::OutOfMemory;
+    let args = match env::args(rt) {
+        Ok(args) => args,
+        Err(error) => return status_of_words(error.kind()),
     };
     let Ok(texts) = args.skip(1).collect::<Vec<String>>(rt.alloc()) else {
         return Status::OutOfMemory;

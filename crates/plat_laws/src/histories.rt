@@ -1,0 +1,12 @@
+ghost use Rattle.plat_base.specs.Histories.{IsOneHistory};
+ghost use Rattle.plat_base.specs.Rules.{Good};
+ghost use Rattle.plat_base.specs.Seen.{machine};
+
+use plat_base::{Config, Ended, Item, Policy};
+
+/// Does nothing; its contract is the law of good histories: where no item and no end breaks a rule, the accesses are one
+/// history of flat memory (Lamport 1979), each processor's are those of its program, and none goes by a translation that
+/// an earlier shootdown removed.
+pub fn good_history<P: Policy>(cfg: &Config, policy: &P, items: &[Item], ends: &[Ended])
+    ensures { Good (machine cfg.now) (P.answer policy.now) items.now ends.now → IsOneHistory (machine cfg.now) items.now ends.now }
+{}
