@@ -9,7 +9,7 @@ use Rattle.plat_base.specs.Machine.{Machine}
 use Rattle.plat_base.specs.Pages.{entry_at, numbers}
 use Rattle.plat_base.specs.GuestRun.{GuestRun, Outcome, GoesOn, HasHalted, HasTrapped, want_of, guest_run}
 use Rattle.plat_base.specs.Done.{Accessed, Switched, value_of, values_of, done_of, operations_of}
-use Rattle.plat_base.specs.Held.{held, held_after, active, active_after, has_right}
+use Rattle.plat_base.specs.Held.{held, active, active_after, has_right}
 use Rattle.plat_base.specs.Coarse.{ended_of, is_live}
 use Rattle.plat_base.specs.Alike.{same_end}
 use Rattle.plat_base.specs.Rules.{stands, has_made, same_outcome, wants_right, wants_operation, is_cut_at, is_end, is_in_order, bad_at, bad_or, bad_rule, bad_after, bad_ends, first_bad}
@@ -25,7 +25,6 @@ use Rattle.plat_base.specs.declared.guests.Want.TheVariants as want
 use Rattle.plat_base.specs.declared.items.Item.{Item}
 use Rattle.plat_base.specs.declared.items.Item.TheVariants as item
 use Rattle.plat_base.specs.declared.items.Kind.{Kind}
-use Rattle.plat_base.specs.declared.items.Translation.{Translation}
 use Rattle.plat_laws.specs.Sound.{IsGuest}
 use Rattle.plat_laws.proofs.Limits.{and-left, and-right}
 use Rattle.plat_laws.proofs.GuestLaws.{fewer_turns, guest_run-next_same, values_of-none, operations_of-none, IsGuest-not_mine}
@@ -201,46 +200,11 @@ done_of-not_by q (item.Change c) h = refl
 done_of-not_by q (item.Applied x) h = refl
 done_of-not_by q (item.Switch s) h = rw h
 
-held_after-not_by : (m : Machine) (q e : ℕ) (t : Option Translation) (i : Item) → is_by q i ≡ false → held_after m q e t i ≡ t
-held_after-not_by m q e t (item.Access a) h = refl
-held_after-not_by m q e t (item.Change c) h = rw h
-held_after-not_by m q e t (item.Applied x) h = rw h
-held_after-not_by m q e t (item.Switch s) h = refl
-
-active_after-not_by : (q space : ℕ) (i : Item) → is_by q i ≡ false → active_after q space i ≡ space
-active_after-not_by q space (item.Access a) h = refl
-active_after-not_by q space (item.Change c) h = refl
-active_after-not_by q space (item.Applied x) h = refl
-active_after-not_by q space (item.Switch s) h = rw h
-
 pub values_of-not_by : (q : ℕ) (more : List Item) → list_any (is_by q) more ≡ false → values_of q more ≡ []
 values_of-not_by q more h = filter_map-passed_over (value_of q) (is_by q) more (value_of-not_by q) h
 
 pub operations_of-not_by : (q : ℕ) (more : List Item) → list_any (is_by q) more ≡ false → operations_of q more ≡ []
 operations_of-not_by q more h = filter_map-passed_over (done_of q) (is_by q) more (done_of-not_by q) h
-
-pub held-not_by :
-    (m : Machine) (items more : List Item) (q e : ℕ) → list_any (is_by q) more ≡ false → held m (items ++ more) q e ≡ held m items q e
-held-not_by m items more q e h =
-    rw fold-append (fold-passed_over (held_after m q e) (is_by q) (held m items q e) more (held_after-not_by m q e) h)
-
-pub active-not_by :
-    (m : Machine) (items more : List Item) (q : ℕ) → list_any (is_by q) more ≡ false → active m (items ++ more) q ≡ active m items q
-active-not_by m items more q h =
-    rw fold-append (fold-passed_over (active_after q) (is_by q) (active m items q) more (active_after-not_by q) h)
-
-pub not_mine :
-    (m : Machine) (items more : List Item) (ends ends_now : List Ended) (q : ℕ) → list_any (is_by q) more ≡ false
-    → ended_of ends_now q ≡ ended_of ends q → is_in_order m (items ++ more) ends_now q ≡ is_in_order m items ends q
-not_mine m items more ends ends_now q h e =
-    is_in_order-not_mine m items more ends ends_now q (values_of-not_by q more h) (operations_of-not_by q more h)
-    (λ x. held-not_by m items more q x h) e
-
-pub IsGuest-not_by :
-    (m : Machine) (items more : List Item) (t q : ℕ) → IsGuest m items t q → list_any (is_by q) more ≡ false
-    → IsGuest m (items ++ more) t q
-IsGuest-not_by m items more t q g h =
-    IsGuest-not_mine m items more t q g (values_of-not_by q more h) (operations_of-not_by q more h) (active-not_by m items more q h)
 
 -- ---- items that are no operations
 

@@ -23,7 +23,7 @@ use Rattle.plat_base.specs.declared.items.Item.{Item}
 use Rattle.plat_base.specs.declared.policies.Verdict.{Verdict}
 use Rattle.plat_base.specs.declared.policies.Verdict.TheVariants as verdict
 use Rattle.plat_base.specs.declared.policies.Decision.{Decision}
-use Rattle.plat_laws.proofs.NumberLaws.{find_numbers-none, find_numbers-some, list_any_numbers-true, list_any_numbers-false, filter_map_numbers-none, pigeon-holes}
+use Rattle.plat_laws.proofs.NumberLaws.{find_numbers-none, find_numbers-some, list_any_numbers-true, filter_map_numbers-none, pigeon-holes}
 use Rattle.plat_laws.proofs.TableLaws.{DecideFacts, decide_facts, is_decided-change_by, same_right-itself, all_three, copy_on-empty}
 
 -- ---- used frames
@@ -40,13 +40,6 @@ has_number-true mo k (Some f) on h =
     let same : f.number ≡ k = eqb-true f.number k h in
     rw (← here, ← same)
 
-has_number-false : (mo k : ℕ) (o : Option Frame) → has_number k o ≡ false → o ≢ Some (frame_at mo k)
-unfolding has_number
-has_number-false mo k None h e = cc
-has_number-false mo k (Some f) h e =
-    let same : f.number ≡ k = cc in
-    cc (eq-eqb f.number k same)
-
 -- a used frame is a copy of some page
 pub used_frame : (m : Machine) (items : List Item) (mo k : ℕ) → is_used m items mo k ≡ true
     → (p : ℕ) × (p < m.pages) × (copy_on mo (dir_of items p).copies ≡ Some (frame_at mo k))
@@ -54,14 +47,6 @@ unfolding has_number
 used_frame m items mo k h =
     let r = list_any_numbers-true (λ p. has_number k (copy_on mo (dir_of items p).copies)) m.pages h in
     (r.0, r.1, has_number-true mo k (copy_on mo (dir_of items r.0).copies) (λ f e. copy_on-module mo f (dir_of items r.0).copies e) r.2)
-
--- a frame that is free is a copy of no page
-pub unused_frame : (m : Machine) (items : List Item) (mo k p : ℕ) → is_used m items mo k ≡ false → p < m.pages
-    → copy_on mo (dir_of items p).copies ≢ Some (frame_at mo k)
-unfolding has_number
-unused_frame m items mo k p h l =
-    has_number-false mo k (copy_on mo (dir_of items p).copies)
-    (list_any_numbers-false (λ p. has_number k (copy_on mo (dir_of items p).copies)) m.pages p h l)
 
 -- ---- the free frame of a module
 
@@ -205,21 +190,6 @@ pub fault_facts : (m : Machine) (answer : Dir → Option ℕ → ℕ → Verdict
     → DecideFacts m (dir_of items p) (got_frame m answer items n p now c) c (decided m answer items n p now c)
 fault_facts m answer items n p now c h l st t =
     decide_facts m answer (dir_of items p) (last_of items p) now n c (got_frame m answer items n p now c) t (got_fits m answer items n p now c h l st t)
-
-taken_unused : (m : Machine) (items : List Item) (n : ℕ) (empty moves : Bool) (f : Frame)
-    → (if empty then nearest_free m items n else if moves then free_frame m items n else None) ≡ Some f
-    → is_used m items f.module f.number ≡ false
-taken_unused m items n true moves f h = (free_frame-some m items f.module f (nearest_free-some m items n f h).1).free
-taken_unused m items n false true f h =
-    let r = free_frame-some m items n f h in ap (λ (mo : ℕ). is_used m items mo f.number) r.on ∙ r.free
-taken_unused m items n false false f h = absurd cc
-
--- the frame that a fault takes was free
-pub got_unused : (m : Machine) (answer : Dir → Option ℕ → ℕ → Verdict) (items : List Item) (n p now : ℕ) (c : Cause) (f : Frame)
-    → got_frame m answer items n p now c ≡ Some f → is_used m items f.module f.number ≡ false
-got_unused m answer items n p now c f h =
-    let dir = dir_of items p in
-    taken_unused m items n (is_empty dir.state) (asks c dir n && same_verdict (answer dir (last_of items p) now) verdict.Move) f h
 
 -- the rule of a fault's change, where the judge makes the decision d of the change
 judged : (items : List Item) (n p now e : ℕ) (c : Cause) (d : Decision) (may : Bool) (made : Decision) → may ≡ true → made ≡ d

@@ -6,14 +6,14 @@ use Rattle.std.proofs.lemmas.Option.{slice_get_within}
 use Rattle.std.proofs.lemmas.List.{append-nil, length-append}
 use Rattle.std.proofs.lemmas.List.Elements.{filter_map-append}
 use Rattle.std.proofs.lemmas.Bool.Decides.{nat_tests}
-use Rattle.plat_base.specs.Machine.{Machine, Program, is_instr}
+use Rattle.plat_base.specs.Machine.{Machine, Program}
 use Rattle.plat_base.specs.Pages.{program_of, entry_at, page_of, space_of, no_entry}
 use Rattle.plat_base.specs.GuestRun.{GuestRun, GuestState, Reach, Operation, Reaches, Switches, Outcome, GoesOn, HasHalted, HasTrapped, want_of, guest_after, values_taken, value_for, reach_of, with_turn, with_access, guest_does, guest_more, guest_run, passed, gone, executed, executed_next, wanted, wanted_next, address, register, target}
 use Rattle.plat_base.specs.Done.{Done, Accessed, Switched, value_of, values_of, done_of, operations_of, is_done_access, are_done, reads_word}
 use Rattle.plat_base.specs.Held.{active}
 use Rattle.plat_base.specs.Rules.{next_operation}
 use Rattle.plat_laws.specs.Sound.{IsGuest, IsMachine}
-use Rattle.plat_laws.proofs.Limits.{page_of-below, words-some, instr-limits}
+use Rattle.plat_laws.proofs.Limits.{page_of-below, words-some}
 use Rattle.plat_base.specs.declared.items.Access.{Access}
 use Rattle.plat_base.specs.declared.items.Item.{Item}
 use Rattle.plat_base.specs.declared.configs.Entry.{Entry}
@@ -542,10 +542,6 @@ IsReach-wanted m q s k sp a o h =
       word = refl;
     }
 
-pub IsReach-page :
-    (m : Machine) (s : GuestState) (k : Kind) (sp a o e : ℕ) → IsMachine m → IsReach m s k sp a o e → page_of m e < m.pages
-IsReach-page m s k sp a o e h r = page_of-below m e h r.below
-
 pub reach_of-page :
     (m : Machine) (s : GuestState) (k : Kind) (sp a o e : ℕ) → IsMachine m → IsReach m s k sp a o e → (reach_of m k sp a o).page < m.pages
 reach_of-page m s k sp a o e h r = rw r.page (page_of-below m e h r.below)
@@ -559,33 +555,3 @@ access_or_trap-switch :
     (b : Bool) (k : Kind) (sp a o next : ℕ) → (if b then want.Access k sp a o else want.Trap) ≡ want.Switch next → ⊥
 access_or_trap-switch true k sp a o next h = cc
 access_or_trap-switch false k sp a o next h = cc
-
-wanted-switch : (m : Machine) (s : GuestState) (i : Instr) (next : ℕ) → wanted m s i ≡ want.Switch next → i ≡ instr.Switch next
-wanted-switch m s (instr.Set d n) next h = absurd cc
-wanted-switch m s (instr.Move d b) next h = absurd cc
-wanted-switch m s (instr.Add d b c) next h = absurd cc
-wanted-switch m s (instr.Sub d b c) next h = absurd cc
-wanted-switch m s (instr.Mul d b c) next h = absurd cc
-wanted-switch m s (instr.And d b c) next h = absurd cc
-wanted-switch m s (instr.Shr d b c) next h = absurd cc
-wanted-switch m s (instr.Load d at i) next h = absurd (access_or_trap-switch _ kind.Load s.space (address s at i) 0 next h)
-wanted-switch m s (instr.Store r at i) next h = absurd (access_or_trap-switch _ kind.Store s.space (address s at i) (register s r) next h)
-wanted-switch m s (instr.Fadd d r at i) next h = absurd (access_or_trap-switch _ kind.Add s.space (address s at i) (register s r) next h)
-wanted-switch m s (instr.Switch space) next h = cc
-wanted-switch m s (instr.Print r) next h = absurd cc
-wanted-switch m s (instr.Jump l) next h = absurd cc
-wanted-switch m s (instr.Zero b l) next h = absurd cc
-wanted-switch m s (instr.Less b c l) next h = absurd cc
-wanted-switch m s instr.Halt next h = absurd cc
-
-wanted_next-switch :
-    (m : Machine) (labels : ℕ) (s : GuestState) (i : Option Instr) (next : ℕ)
-    → ((x : Instr) → i ≡ Some x → is_instr labels x ≡ true) → wanted_next m s i ≡ want.Switch next → next ≤ 7
-wanted_next-switch m labels s None next f h = absurd cc
-wanted_next-switch m labels s (Some i) next f h =
-    let e : is_instr labels (instr.Switch next) ≡ true = rw (wanted-switch m s i next h) at (f i refl) in grind (arith, nat_tests)
-
-pub switch-most : (m : Machine) (q : ℕ) (s : GuestState) (next : ℕ) → IsMachine m → want_of m q s ≡ want.Switch next → next ≤ 7
-switch-most m q s next h w =
-    wanted_next-switch m (length (program_of m q).labels) s (slice_get (program_of m q).code s.at) next
-    (λ x e. instr-limits m q s.at x h e) w

@@ -11,9 +11,9 @@ use Rattle.std.proofs.lemmas.List.Elements.{filter_map-append}
 use Rattle.plat_base.specs.Machine.{Machine}
 use Rattle.plat_base.specs.Pages.{entry_at, page_of, program_of, initial_value}
 use Rattle.plat_base.specs.Flat.{writes_word, written, flat_value, flat_writes}
-use Rattle.plat_base.specs.Directories.{change_of, empty_dir, dir_after, dir_of, seq_after, seq_of, sets_last, last_after, last_of}
+use Rattle.plat_base.specs.Directories.{change_of, empty_dir, dir_after, dir_of, seq_after, seq_of, last_after, last_of}
 use Rattle.plat_base.specs.Held.{kept_of, granted_to, held_after, held, active_after, active, has_right, is_later_change, later}
-use Rattle.plat_base.specs.Done.{value_of, values_of, Done, Accessed, Switched, done_of, operations_of, reads_word, are_done}
+use Rattle.plat_base.specs.Done.{value_of, values_of, Done, Switched, done_of, operations_of, are_done}
 use Rattle.plat_base.specs.GuestRun.{guest_run, want_of, GoesOn, HasHalted, HasTrapped}
 use Rattle.plat_base.specs.Coarse.{is_owed_for, by_other, ended_of}
 use Rattle.plat_base.specs.Rules.{wants_right, wants_operation, stands, is_end, is_in_order, bad_rule, bad_at, bad_or, bad_after}
@@ -164,12 +164,6 @@ flat_value-append m xs ys page word = fold-append (λ v i. if writes_word page w
 pub flat_writes-append : (xs ys : List Item) (page word : ℕ) → flat_writes (xs ++ ys) page word ≡ fold (λ n i. if writes_word page word i then n + 1 else n) (flat_writes xs page word) ys
 flat_writes-append xs ys page word = fold-append (λ n i. if writes_word page word i then n + 1 else n) 0 xs ys
 
-pub later-append : (test : Removed → Bool) (xs ys : List Item) (page seq : ℕ) → later test (xs ++ ys) page seq ≡ (later test xs page seq || later test ys page seq)
-later-append test xs ys page seq = list_any-append (is_later_change test page seq) xs ys
-
-pub by_other-append : (test : Removed → Bool) (xs ys : List Item) (q page seq : ℕ) → by_other test (xs ++ ys) q page seq ≡ (by_other test xs q page seq || by_other test ys q page seq)
-by_other-append test xs ys q page seq = list_any-append (is_owed_for test q page seq) xs ys
-
 pub values_of-append : (q : ℕ) (xs ys : List Item) → values_of q (xs ++ ys) ≡ values_of q xs ++ values_of q ys
 values_of-append q xs ys = filter_map-append (value_of q) xs ys
 
@@ -302,33 +296,7 @@ by_other-change test xs c q page seq = list_any-push (is_owed_for test q page se
 
 -- of the change's own page
 
-pub dir_of-change_own : (xs : List Item) (c : Change) → dir_of (xs ++ item.Change c ∷ []) c.page ≡ c.after
-dir_of-change_own xs c = dir_of-change xs c c.page ∙ same_number c.page c.after (dir_of xs c.page)
-
-pub seq_of-change_own : (xs : List Item) (c : Change) → seq_of (xs ++ item.Change c ∷ []) c.page ≡ seq_of xs c.page + 1
-seq_of-change_own xs c = seq_of-change xs c c.page ∙ same_number c.page (seq_of xs c.page + 1) (seq_of xs c.page)
-
-pub last_of-change_own : (xs : List Item) (c : Change) → last_of (xs ++ item.Change c ∷ []) c.page ≡ if sets_last c.action then Some c.time else last_of xs c.page
-last_of-change_own xs c = last_of-change xs c c.page ∙ same_number c.page (last_after (last_of xs c.page) (Some c)) (last_of xs c.page)
-
 -- of another page
-
-pub dir_of-change_other : (xs : List Item) (c : Change) (page : ℕ) → c.page ≢ page → dir_of (xs ++ item.Change c ∷ []) page ≡ dir_of xs page
-dir_of-change_other xs c page h = dir_of-change xs c page ∙ other_number c.page page c.after (dir_of xs page) h
-
-pub seq_of-change_other : (xs : List Item) (c : Change) (page : ℕ) → c.page ≢ page → seq_of (xs ++ item.Change c ∷ []) page ≡ seq_of xs page
-seq_of-change_other xs c page h = seq_of-change xs c page ∙ other_number c.page page (seq_of xs page + 1) (seq_of xs page) h
-
-pub last_of-change_other : (xs : List Item) (c : Change) (page : ℕ) → c.page ≢ page → last_of (xs ++ item.Change c ∷ []) page ≡ last_of xs page
-last_of-change_other xs c page h = last_of-change xs c page ∙ other_number c.page page (last_after (last_of xs page) (Some c)) (last_of xs page) h
-
-pub later-change_other : (test : Removed → Bool) (xs : List Item) (c : Change) (page seq : ℕ) → c.page ≢ page → later test (xs ++ item.Change c ∷ []) page seq ≡ later test xs page seq
-later-change_other test xs c page seq h =
-    later-change test xs c page seq ∙ rw (ne_eqb c.page page h) (or-false (later test xs page seq))
-
-pub by_other-change_other : (test : Removed → Bool) (xs : List Item) (c : Change) (q page seq : ℕ) → c.page ≢ page → by_other test (xs ++ item.Change c ∷ []) q page seq ≡ by_other test xs q page seq
-by_other-change_other test xs c q page seq h =
-    by_other-change test xs c q page seq ∙ rw (ne_eqb c.page page h) (or-false (by_other test xs q page seq))
 
 -- of the actor and of another processor
 
@@ -382,32 +350,6 @@ later-access test xs a page seq = list_any-push (is_later_change test page seq) 
 pub by_other-access : (test : Removed → Bool) (xs : List Item) (a : Access) (q page seq : ℕ) → by_other test (xs ++ item.Access a ∷ []) q page seq ≡ by_other test xs q page seq
 by_other-access test xs a q page seq = list_any-push (is_owed_for test q page seq) xs (item.Access a) ∙ or-false (by_other test xs q page seq)
 
-pub flat_value-access : (m : Machine) (xs : List Item) (a : Access) (page word : ℕ) → flat_value m (xs ++ item.Access a ∷ []) page word ≡ if writes_word page word (item.Access a) then a.new else flat_value m xs page word
-flat_value-access m xs a page word = flat_value-append m xs (item.Access a ∷ []) page word
-
-pub flat_writes-access : (xs : List Item) (a : Access) (page word : ℕ) → flat_writes (xs ++ item.Access a ∷ []) page word ≡ if writes_word page word (item.Access a) then flat_writes xs page word + 1 else flat_writes xs page word
-flat_writes-access xs a page word = flat_writes-append xs (item.Access a ∷ []) page word
-
-pub values_of-access_own : (xs : List Item) (a : Access) → values_of a.actor (xs ++ item.Access a ∷ []) ≡ values_of a.actor xs ++ (if reads_word a.kind then a.old ∷ [] else [])
-values_of-access_own xs a =
-    values_of-append a.actor xs (item.Access a ∷ [])
-    ∙ ap (λ vs. values_of a.actor xs ++ vs) (rw (eq-eqb a.actor a.actor refl) (listed (reads_word a.kind)))
-  where
-    listed : (b : Bool) → filter_map (λ (i : Item). if b then Some a.old else None) (item.Access a ∷ []) ≡ if b then a.old ∷ [] else []
-    listed true = refl
-    listed false = refl
-
-pub values_of-access_other : (q : ℕ) (xs : List Item) (a : Access) → a.actor ≢ q → values_of q (xs ++ item.Access a ∷ []) ≡ values_of q xs
-values_of-access_other q xs a h =
-    values_of-append q xs (item.Access a ∷ []) ∙ rw (ne_eqb a.actor q h) (append-nil (values_of q xs))
-
-pub operations_of-access_own : (xs : List Item) (a : Access) → operations_of a.actor (xs ++ item.Access a ∷ []) ≡ operations_of a.actor xs ++ Accessed a ∷ []
-operations_of-access_own xs a = operations_of-append a.actor xs (item.Access a ∷ []) ∙ rw (eq-eqb a.actor a.actor refl) refl
-
-pub operations_of-access_other : (q : ℕ) (xs : List Item) (a : Access) → a.actor ≢ q → operations_of q (xs ++ item.Access a ∷ []) ≡ operations_of q xs
-operations_of-access_other q xs a h =
-    operations_of-append q xs (item.Access a ∷ []) ∙ rw (ne_eqb a.actor q h) (append-nil (operations_of q xs))
-
 -- ---- one more switch
 
 pub dir_of-switch : (xs : List Item) (s : Switch) (page : ℕ) → dir_of (xs ++ item.Switch s ∷ []) page ≡ dir_of xs page
@@ -443,9 +385,6 @@ active-switch m xs s q = active-append m xs (item.Switch s ∷ []) q
 pub active-switch_own : (m : Machine) (xs : List Item) (s : Switch) → active m (xs ++ item.Switch s ∷ []) s.actor ≡ s.space
 active-switch_own m xs s = active-switch m xs s s.actor ∙ same_number s.actor s.space (active m xs s.actor)
 
-pub active-switch_other : (m : Machine) (xs : List Item) (s : Switch) (q : ℕ) → s.actor ≢ q → active m (xs ++ item.Switch s ∷ []) q ≡ active m xs q
-active-switch_other m xs s q h = active-switch m xs s q ∙ other_number s.actor q s.space (active m xs q) h
-
 pub operations_of-switch_own : (xs : List Item) (s : Switch) → operations_of s.actor (xs ++ item.Switch s ∷ []) ≡ operations_of s.actor xs ++ Switched s.space ∷ []
 operations_of-switch_own xs s = operations_of-append s.actor xs (item.Switch s ∷ []) ∙ rw (eq-eqb s.actor s.actor refl) refl
 
@@ -469,15 +408,6 @@ held-not_mine m xs ys q entry h = fold-append_untouched (held_after m q entry) (
     kept t (item.Change c) h = rw h refl
     kept t (item.Applied x) h = rw h refl
     kept t (item.Switch s) h = refl
-
-pub active-not_mine : (m : Machine) (xs ys : List Item) (q : ℕ) → list_any (is_by q) ys ≡ false → active m (xs ++ ys) q ≡ active m xs q
-active-not_mine m xs ys q h = fold-append_untouched (active_after q) (is_by q) kept (program_of m q).space xs ys h
-  where
-    kept : (space : ℕ) (i : Item) → is_by q i ≡ false → active_after q space i ≡ space
-    kept space (item.Access a) h = refl
-    kept space (item.Change c) h = refl
-    kept space (item.Applied x) h = refl
-    kept space (item.Switch s) h = rw h refl
 
 pub values_of-not_mine : (q : ℕ) (xs ys : List Item) → list_any (is_by q) ys ≡ false → values_of q (xs ++ ys) ≡ values_of q xs
 values_of-not_mine q xs ys h = filter_map-append_untouched (value_of q) (is_by q) none xs ys h

@@ -36,14 +36,8 @@ is_within-high low high n h = grind (arith, nat_tests)
 
 -- ---- numbers
 
-pub nodes-some : (m : Machine) → IsMachine m → 1 ≤ m.nodes
-nodes-some m h = is_within-low 1 8 m.nodes (limit_at m 0 h (omega arith))
-
 pub nodes-most : (m : Machine) → IsMachine m → m.nodes ≤ 8
 nodes-most m h = is_within-high 1 8 m.nodes (limit_at m 0 h (omega arith))
-
-pub frames-some : (m : Machine) → IsMachine m → 1 ≤ m.frames
-frames-some m h = is_within-low 1 64 m.frames (limit_at m 1 h (omega arith))
 
 pub frames-most : (m : Machine) → IsMachine m → m.frames ≤ 64
 frames-most m h = is_within-high 1 64 m.frames (limit_at m 1 h (omega arith))
@@ -56,12 +50,6 @@ is_page_size-most n h = grind (arith, nat_tests)
 
 pub words-some : (m : Machine) → IsMachine m → 0 < m.words
 words-some m h = is_page_size-some m.words (limit_at m 2 h (omega arith))
-
-pub words-most : (m : Machine) → IsMachine m → m.words ≤ 64
-words-most m h = is_page_size-most m.words (limit_at m 2 h (omega arith))
-
-pub pages-some : (m : Machine) → IsMachine m → 1 ≤ m.pages
-pages-some m h = is_within-low 1 64 m.pages (limit_at m 3 h (omega arith))
 
 pub pages-most : (m : Machine) → IsMachine m → m.pages ≤ 64
 pages-most m h = is_within-high 1 64 m.pages (limit_at m 3 h (omega arith))
@@ -115,12 +103,6 @@ program-parts :
     (p : Program) → is_program p ≡ true
     → (p.space ≤ 7) × (length p.code ≤ 4096) × (length p.labels ≤ 256) × (list_all (is_instr (length p.labels)) p.code ≡ true)
 program-parts p h = grind (arith, nat_tests)
-
-pub program-space : (m : Machine) (q : ℕ) → IsMachine m → (program_of m q).space ≤ 7
-program-space m q h = (program-parts (program_of m q) (program-limits m q h)).0
-
-pub program-length : (m : Machine) (q : ℕ) → IsMachine m → length (program_of m q).code ≤ 4096
-program-length m q h = (program-parts (program_of m q) (program-limits m q h)).1
 
 slice_get-is_instr :
     (labels : ℕ) (code : List Instr) (i : ℕ) (x : Instr) → list_all (is_instr labels) code ≡ true → slice_get code i ≡ Some x

@@ -16,11 +16,9 @@ use Rattle.plat_base.specs.Directories.{dir_of, seq_of, last_after, last_of}
 use Rattle.plat_base.specs.Flat.{flat_value, flat_writes}
 use Rattle.plat_base.specs.Done.{Switched, values_of, operations_of}
 use Rattle.plat_base.specs.Held.{kept_of, told, granted_to, held_after, held, active, later, removes_all, removes_writes}
-use Rattle.plat_base.specs.Coarse.{Coarse, is_live, by_other, owed_for, owed, message_of, removes_some, is_target, interrupt_of, interrupts, activation_of, activation, switch_items, access_by, cause_of, change_by, grant_of, fault_items, thaw_items}
-use Rattle.plat_base.specs.Decide.{decide}
+use Rattle.plat_base.specs.Coarse.{Coarse, is_live, by_other, owed_for, owed, message_of, removes_some, is_target, interrupt_of, interrupts, activation_of, activation, switch_items, access_by, cause_of, change_by, grant_of, fault_items}
 use Rattle.plat_base.specs.GuestRun.{Reach}
 use Rattle.plat_base.specs.declared.policies.Decision.{Decision}
-use Rattle.plat_base.specs.declared.items.Cause.TheVariants as cause
 use Rattle.plat_base.specs.Rules.{may_apply, is_answered, is_switch_next, next_operation, is_ordered_switch, unless, bad_after, bad_at}
 use Rattle.plat_laws.proofs.ItemLaws.{or-false, same_number, other_number, held-append, is_applied, all_applied, dir_of-applied, seq_of-applied, last_of-applied, active-applied, flat_value-applied, flat_writes-applied, later-applied, by_other-applied, values_of-applied, operations_of-applied, dir_of-change, seq_of-change, last_of-change, later-change, by_other-change, active-change, flat_value-change, flat_writes-change, values_of-change, operations_of-change, held-change_own, held-change_other, dir_of-switch, seq_of-switch, last_of-switch, held-switch, active-switch, active-switch_own, later-switch, by_other-switch, flat_value-switch, flat_writes-switch, values_of-switch, operations_of-switch_own, operations_of-switch_other, is_by, held-not_mine, bad_after-append}
 use Rattle.plat_base.specs.declared.items.Removed.{Removed}
@@ -121,29 +119,6 @@ interrupts-All P m s initiator page rem h = rw (interrupts-block m s initiator p
         block-All P rem (λ e. page_of m e == page) (is_target m s initiator) m.nodes 0 (length m.entries)
         (λ r e l u o n w. h r e n (omega arith) (eqb-true (page_of m e) page o) w k)
     by false k = All-nil P
-
-pub record IsInterrupt (m : Machine) (s : Coarse) (initiator page : ℕ) (rem : Removed) (i : Item) : Type 0 where
-  pub actor : ℕ
-  pub entry : ℕ
-  pub is : i ≡ interrupt_of rem entry actor
-  pub node : actor < m.nodes
-  pub known : entry < length m.entries
-  pub of_page : page_of m entry ≡ page
-  pub target : is_target m s initiator entry actor ≡ true
-  pub is_hit : hit m s initiator page rem actor entry ≡ true
-
-pub interrupts-each : (m : Machine) (s : Coarse) (initiator page : ℕ) (rem : Removed) → All (IsInterrupt m s initiator page rem) (interrupts m s initiator page rem)
-interrupts-each m s initiator page rem =
-    interrupts-All (IsInterrupt m s initiator page rem) m s initiator page rem (λ r e n k o w some. record {
-      actor = r;
-      entry = e;
-      is = refl;
-      node = n;
-      known = k;
-      of_page = o;
-      target = w;
-      is_hit = rw (some, eq-eqb (page_of m e) page o, lt-ltb r m.nodes n) w;
-    })
 
 pub interrupts-applied : (m : Machine) (s : Coarse) (initiator page : ℕ) (rem : Removed) → all_applied (interrupts m s initiator page rem) ≡ true
 interrupts-applied m s initiator page rem =
@@ -373,9 +348,6 @@ fault_items-parts m s q now entry r d =
     let c = change_by s.history q r.page now (cause_of r.kind) d (Some (grant_of entry (cause_of r.kind) d))
     in let a = access_by m s.history q r d.frame (seq_of s.history r.page)
     in sym (append_assoc s.history (sent m s c ++ item.Change c ∷ []) (a ∷ []) ∙ ap (λ xs. s.history ++ xs) (append_assoc (sent m s c) (item.Change c ∷ []) (a ∷ [])))
-
-pub thaw_items-parts : (m : Machine) (answer : Dir → Option ℕ → ℕ → Verdict) (s : Coarse) (now page : ℕ) → s.history ++ thaw_items m answer s now page ≡ posted m s (change_by s.history m.nodes page now cause.Thaw (decide m answer (dir_of s.history page) (last_of s.history page) now m.nodes cause.Thaw None) None)
-thaw_items-parts m answer s now page = refl
 
 -- ---- a switch and the messages that it answers
 

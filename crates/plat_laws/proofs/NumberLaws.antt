@@ -1,10 +1,8 @@
 -- the numbers below a bound: what is found among them, and how many there are at least
-use Rattle.std.proofs.Common.{◌≡◌, ℕ, zero, suc, ◌+◌, ◌<◌, ◌≤◌, Bool, true, false, not, List, [], ◌∷◌, length, filter, Option, Some, None, sym, ◌∙◌, arith}
+use Rattle.std.proofs.Common.{◌≡◌, ℕ, zero, suc, ◌+◌, ◌<◌, ◌≤◌, Bool, true, false, not, List, [], ◌∷◌, length, filter, Option, Some, None, arith}
 use Rattle.std.specs.Prelude.{◌==◌, find}
-use Rattle.std.specs.List.{Contains, list_any, range_with_len, filter_map}
-use Rattle.std.proofs.lemmas.Bool.{true_from_ne_false, true≢false}
+use Rattle.std.specs.List.{list_any, range_with_len, filter_map}
 use Rattle.std.proofs.lemmas.Bool.Decides.{nat_tests}
-use Rattle.std.proofs.lemmas.List.FromFn.{length-range_with_len, get_or-range_with_len}
 use Rattle.plat_base.specs.Pages.{numbers}
 
 -- ---- the numbers from a bound on
@@ -43,21 +41,8 @@ list_any_numbers-true test k h = let r = list_any_range-true test 0 k h in (r.0,
 pub list_any_numbers-false : (test : ℕ → Bool) (k i : ℕ) → list_any test (numbers k) ≡ false → i < k → test i ≡ false
 list_any_numbers-false test k i h l = list_any_range-false test 0 k i h (omega arith) (omega arith)
 
-pub list_any_numbers_at : (test : ℕ → Bool) (k i : ℕ) → i < k → test i ≡ true → list_any test (numbers k) ≡ true
-list_any_numbers_at test k i l h =
-    true_from_ne_false (list_any test (numbers k)) (λ e. true≢false (sym h ∙ list_any_numbers-false test k i e l))
-
 pub filter_map_numbers-none : {X : Type 0} (f : ℕ → Option X) (k i : ℕ) → filter_map f (numbers k) ≡ [] → i < k → f i ≡ None
 filter_map_numbers-none f k i h l = filter_map_range-none f 0 k i h (omega arith) (omega arith)
-
--- a number is a member exactly where it is below the bound
-pub Contains-numbers : (k i : ℕ) → i < k → Contains (numbers k) i
-Contains-numbers k i l = (i, omega (arith, length-range_with_len 0 k), omega (arith, get_or-range_with_len 0 k i i l))
-
-pub below_Contains-numbers : (k i : ℕ) → Contains (numbers k) i → i < k
-below_Contains-numbers k i h =
-    let l : h.0 < k = omega (arith, h.1, length-range_with_len 0 k) in
-    omega (arith, h.2, l, get_or-range_with_len 0 k h.0 i l)
 
 -- ---- pigeons
 

@@ -3,7 +3,7 @@ use Rattle.std.proofs.Common.{◌≡◌, ◌≢◌, ℕ, zero, suc, ◌+◌, ◌
 use Rattle.std.specs.Prelude.{◌==◌, ◌%◌, find, slice_get, slice_set}
 use Rattle.std.specs.Option.{option_map}
 use Rattle.std.specs.List.{fold, list_any, range_with_len}
-use Rattle.std.proofs.lemmas.Bool.{eqb-true, eqb-false, lt-ltb, cond_both, cases_eq}
+use Rattle.std.proofs.lemmas.Bool.{lt-ltb, cases_eq}
 use Rattle.std.proofs.lemmas.Bool.Decides.{nat_tests}
 use Rattle.std.proofs.lemmas.List.{length-set, get_or-set_same, get_or-set_other, length-replicate, nil_from_length}
 use Rattle.std.proofs.lemmas.List.Folds.{sum_by-replicate}
@@ -32,12 +32,6 @@ ended_of-set_other ends q r x h = get_or-set_other ends q r x (cut_at 0) h
 
 pub length-ends_set : (ends : List Ended) (q : ℕ) (x : Ended) → length (slice_set ends q x) ≡ length ends
 length-ends_set ends q x = length-set ends q x
-
-pub ended_of-set : (ends : List Ended) (q r : ℕ) (x : Ended) → q < length ends → ended_of (slice_set ends q x) r ≡ if r == q then x else ended_of ends r
-ended_of-set ends q r x h =
-    cond_both (r == q) x (ended_of ends r) (λ e. ended_of (slice_set ends q x) r ≡ e)
-    (λ same. ap (ended_of (slice_set ends q x)) (eqb-true r q same) ∙ ended_of-set_same ends q x h)
-    (λ other. ended_of-set_other ends q r x (eqb-false r q other))
 
 pub is_live-set_same : (ends : List Ended) (q : ℕ) (x : Ended) → q < length ends → is_live (slice_set ends q x) q ≡ same_end x.end end.Cut
 is_live-set_same ends q x h =

@@ -6,13 +6,13 @@ use Rattle.std.proofs.lemmas.Bool.{eqb-true, eq-eqb, and_parts, and_from}
 use Rattle.std.proofs.lemmas.Bool.Decides.{nat_tests}
 use Rattle.plat_base.specs.Machine.{Machine}
 use Rattle.plat_base.specs.Pages.{distance}
-use Rattle.plat_base.specs.Alike.{same_verdict, state_number, same_state, right_number, same_right, cause_number, same_cause, action_number, same_action, removed_number, same_removed, same_bool, same_dir, same_grant}
-use Rattle.plat_base.specs.Copies.{copy_on, with_frame, same_frame, same_frames}
+use Rattle.plat_base.specs.Alike.{same_verdict, state_number, same_state, right_number, same_right, cause_number, same_cause, action_number, same_action, removed_number, same_removed, same_bool, same_dir}
+use Rattle.plat_base.specs.Copies.{copy_on, with_frame, same_frames}
 use Rattle.plat_base.specs.Directories.{sets_last}
 use Rattle.plat_base.specs.Decide.{is_frame, is_dir, is_empty, modules_rise, has_copies, nearer, nearest, no_frame, decide, may_decide, fits_cause, frozen_after, asks, decision, after_with, row_does, row_of, moves_page, thawed_state, is_some_frame, is_frame_on}
 use Rattle.plat_base.specs.Rules.{names_got, is_decided}
 use Rattle.plat_base.specs.Coarse.{change_by}
-use Rattle.plat_base.proofs.CopiesLemmas.{copy_on-module, length-with_frame, same_frame-itself, same_frames-itself}
+use Rattle.plat_base.proofs.CopiesLemmas.{copy_on-module, length-with_frame, same_frames-itself}
 use Rattle.plat_base.specs.declared.frames.Frame.{Frame}
 use Rattle.plat_base.specs.declared.frames.Dir.{Dir}
 use Rattle.plat_base.specs.declared.frames.State.{State}
@@ -574,11 +574,6 @@ pub same_dir-itself : (d : Dir) → same_dir d d ≡ true
 same_dir-itself d =
     all_three (same_state d.state d.state) (same_bool d.frozen d.frozen) (same_frames d.copies d.copies) (same_state-itself d.state)
     (same_bool-itself d.frozen) (same_frames-itself d.copies)
-
-pub same_grant-itself : (g : Grant) → same_grant g g ≡ true
-same_grant-itself g =
-    all_three (g.entry == g.entry) (same_frame g.frame g.frame) (same_right g.right g.right) (eq-eqb g.entry g.entry refl)
-    (same_frame-itself g.frame) (same_right-itself g.right)
 
 -- a change by a decision is that decision
 pub is_decided-change_by : (items : List Item) (q p now : ℕ) (c : Cause) (d : Decision) (granted : Option Grant)

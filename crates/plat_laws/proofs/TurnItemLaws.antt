@@ -66,11 +66,6 @@ access_of m items q r frame grant =
       grant = grant;
     }
 
-pub access_by-access_of :
-    (m : Machine) (items : List Item) (q : ℕ) (r : Reach) (frame : Frame) (grant : ℕ)
-    → access_by m items q r frame grant ≡ item.Access (access_of m items q r frame grant)
-access_by-access_of m items q r frame grant = refl
-
 -- it is the access of that reach
 pub is_done-access_of :
     (m : Machine) (items : List Item) (q : ℕ) (r : Reach) (frame : Frame) (grant : ℕ)

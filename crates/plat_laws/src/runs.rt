@@ -1,3 +1,4 @@
+//! The law of whole coarse runs.
 ghost use Rattle.std.specs.Prelude.{◌≡◌, ◌≢◌, ◌<◌, ◌≤◌, ℕ, length};
 ghost use Rattle.plat_base.specs.Coarse.{ended_of};
 ghost use Rattle.plat_base.specs.Histories.{IsOneHistory};
