@@ -10,3 +10,4 @@ pub mod SectionLaws
 pub mod RepeatedLaws
 pub mod TextLaws
 pub mod CanonLaws
+pub mod PlainLaws

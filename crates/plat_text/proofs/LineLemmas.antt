@@ -32,7 +32,7 @@ not_zero n h = grind (arith, nat_tests)
 
 -- ---- lines
 
-numbered-more : (n : ℕ) (p : List ℕ) (ps : List (List ℕ)) → 0 < length ps → numbered n (p ∷ ps) ≡ record { number = n; bytes = p; ended = true } ∷ numbered (n + 1) ps
+pub numbered-more : (n : ℕ) (p : List ℕ) (ps : List (List ℕ)) → 0 < length ps → numbered n (p ∷ ps) ≡ record { number = n; bytes = p; ended = true } ∷ numbered (n + 1) ps
 numbered-more n p [] h = absurd (omega arith)
 numbered-more n p (q ∷ ps) h = refl
 

@@ -83,9 +83,12 @@ decimal_first n h e =
       zero_or zero = inl refl
       zero_or (suc n) = inr (omega arith)
 
+pub decimal-spelling : (n : ℕ) → n < 2 ^ 32 → is_spelling (decimal n) ≡ true
+decimal-spelling n small =
+    let h : n < 2 ^ 64 = omega (arith, small) in
+    is_spelling-from (decimal n) (decimal_nonempty n h) (digits_decimal own n h) (decimal_first n h)
+
 pub number_of-again : (n : ℕ) → n < 2 ^ 32 → number_of (decimal n) ≡ Ok n
 number_of-again n small =
     let h : n < 2 ^ 64 = omega (arith, small) in
-    number_of-small (decimal n) n
-    (is_spelling-from (decimal n) (decimal_nonempty n h) (digits_decimal own n h) (decimal_first n h))
-    (digits_value-decimal own n h) small
+    number_of-small (decimal n) n (decimal-spelling n small) (digits_value-decimal own n h) small
