@@ -2,6 +2,7 @@
 use Rattle.std.specs.Prelude.{ℕ, ◌+◌, ◌/◌, ◌%◌, ◌==◌, nat_lt, ◌&&◌, not, if◌then◌else◌, Bool, true, false, List, [], ◌∷◌, ◌++◌, map, length, sum_by, find, filter, replicate, Option, Some, None, is_some, is_none, unwrap_or, slice_index_or, slice_set}
 use Rattle.std.specs.Option.{option_map}
 use Rattle.std.specs.List.{fold, list_any, filter_map, flat_map}
+use Rattle.plat_base.specs.Verdicts.{Answer}
 use Rattle.plat_base.specs.Machine.{Machine}
 use Rattle.plat_base.specs.Pages.{numbers, entry_at, page_of, space_of, entries_of_page, entries_of_space}
 use Rattle.plat_base.specs.GuestRun.{GuestRun, guest_run, want_of, Reach, reach_of}
@@ -13,7 +14,6 @@ use Rattle.plat_base.specs.Decide.{nearest, is_empty, asks, decide}
 use Rattle.plat_base.specs.Copies.{copy_on}
 use Rattle.plat_base.specs.Alike.{same_end, same_verdict}
 use Rattle.plat_base.specs.declared.frames.Frame.{Frame}
-use Rattle.plat_base.specs.declared.frames.Dir.{Dir}
 use Rattle.plat_base.specs.declared.items.Right.{Right}
 use Rattle.plat_base.specs.declared.items.Right.TheVariants as right
 use Rattle.plat_base.specs.declared.items.Kind.{Kind}
@@ -35,7 +35,6 @@ use Rattle.plat_base.specs.declared.endings.End.TheVariants as end
 use Rattle.plat_base.specs.declared.endings.Ended.{Ended}
 use Rattle.plat_base.specs.declared.guests.Want.{Want}
 use Rattle.plat_base.specs.declared.guests.Want.TheVariants as want
-use Rattle.plat_base.specs.declared.policies.Verdict.{Verdict}
 use Rattle.plat_base.specs.declared.policies.Verdict.TheVariants as verdict
 use Rattle.plat_base.specs.declared.policies.Decision.{Decision}
 use Rattle.plat_base.specs.declared.policies.PolicyKind.{PolicyKind}
@@ -178,13 +177,13 @@ right_of cause.Write = right.Write
 right_of cause.Thaw = right.Read
 
 -- the frame that a fault takes: for an empty page from the nearest module, for a page that moves from the own one
-abbrev pub got_frame : Machine → (Dir → Option ℕ → ℕ → Verdict) → List Item → (q page now : ℕ) → Cause → Option Frame
+abbrev pub got_frame : Machine → Answer → List Item → (q page now : ℕ) → Cause → Option Frame
 got_frame m answer items q page now cause =
     let dir = dir_of items page
     in if is_empty dir.state then nearest_free m items q
     else if asks cause dir q && same_verdict (answer dir (last_of items page) now) verdict.Move then free_frame m items q else None
 
-abbrev pub decided : Machine → (Dir → Option ℕ → ℕ → Verdict) → List Item → (q page now : ℕ) → Cause → Decision
+abbrev pub decided : Machine → Answer → List Item → (q page now : ℕ) → Cause → Decision
 decided m answer items q page now cause =
     decide m answer (dir_of items page) (last_of items page) now q cause (got_frame m answer items q page now cause)
 
@@ -227,18 +226,18 @@ made items end = record { items = items; end = end }
 abbrev pub is_starved : Machine → List Item → (q page : ℕ) → Bool
 is_starved m items q page = is_empty (dir_of items page).state && is_none (nearest_free m items q)
 
-abbrev pub fault_made : Machine → (Dir → Option ℕ → ℕ → Verdict) → Coarse → (q now entry : ℕ) → Reach → Made
+abbrev pub fault_made : Machine → Answer → Coarse → (q now entry : ℕ) → Reach → Made
 fault_made m answer s q now entry r =
     if is_starved m s.history q r.page then made [] end.NoFrames
     else made (fault_items m s q now entry r (decided m answer s.history q r.page now (cause_of r.kind))) end.Cut
 
-abbrev pub access_made : Machine → (Dir → Option ℕ → ℕ → Verdict) → Coarse → (q now entry : ℕ) → Reach → Option Translation → Made
+abbrev pub access_made : Machine → Answer → Coarse → (q now entry : ℕ) → Reach → Option Translation → Made
 access_made m answer s q now entry r None = fault_made m answer s q now entry r
 access_made m answer s q now entry r (Some t) =
     if has_right r.kind (Some t) then made (access_by m s.history q r t.grant.frame t.seq ∷ []) end.Cut
     else fault_made m answer s q now entry r
 
-abbrev pub made_by : Machine → (Dir → Option ℕ → ℕ → Verdict) → Coarse → (q now : ℕ) → Want → Made
+abbrev pub made_by : Machine → Answer → Coarse → (q now : ℕ) → Want → Made
 made_by m answer s q now want.Local = made [] end.Cut
 made_by m answer s q now (want.Access kind space addr operand) =
     let entry = unwrap_or (entry_at m space (addr / m.words)) 0
@@ -270,13 +269,13 @@ guest_now m s q = guest_run m q (values_of q s.history) (ended_of s.ends q).turn
 
 -- ---- the daemon
 
-abbrev pub thaw_items : Machine → (Dir → Option ℕ → ℕ → Verdict) → Coarse → (now page : ℕ) → List Item
+abbrev pub thaw_items : Machine → Answer → Coarse → (now page : ℕ) → List Item
 thaw_items m answer s now page =
     let d = decide m answer (dir_of s.history page) (last_of s.history page) now m.nodes cause.Thaw None
     in interrupts m s m.nodes page d.removed ++ item.Change (change_by s.history m.nodes page now cause.Thaw d None) ∷ []
 
 -- a frozen page is thawed
-abbrev pub thaw : Machine → (Dir → Option ℕ → ℕ → Verdict) → ℕ → Coarse → ℕ → Coarse
+abbrev pub thaw : Machine → Answer → ℕ → Coarse → ℕ → Coarse
 thaw m answer now s page =
     if (dir_of s.history page).frozen
     then record { history = s.history ++ thaw_items m answer s now page; ends = s.ends }
@@ -288,15 +287,15 @@ is_pass policy.Replicate now = false
 is_pass (policy.Platinum t1 t2) now = now % t2 == 0
 
 -- the daemon's pass at ticks that are multiples of its period: each frozen page in rising number
-abbrev pub daemon : Machine → (Dir → Option ℕ → ℕ → Verdict) → ℕ → Coarse → Coarse
+abbrev pub daemon : Machine → Answer → ℕ → Coarse → Coarse
 daemon m answer now s = if is_pass m.policy now then fold (thaw m answer now) s (numbers m.pages) else s
 
 -- one turn of processor q, with the daemon's pass that belongs to it
-abbrev pub turn : Machine → (Dir → Option ℕ → ℕ → Verdict) → Coarse → ℕ → Coarse
+abbrev pub turn : Machine → Answer → Coarse → ℕ → Coarse
 turn m answer s q =
     let now = time_of s.ends + 1
     in daemon m answer now (with_made m s q (made_by m answer s q now (want_of m q (guest_now m s q).state)))
 
 -- the turns of a list of processors
-abbrev pub turns : Machine → (Dir → Option ℕ → ℕ → Verdict) → Coarse → List ℕ → Coarse
+abbrev pub turns : Machine → Answer → Coarse → List ℕ → Coarse
 turns m answer s qs = fold (turn m answer) s qs

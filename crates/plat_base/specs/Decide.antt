@@ -1,6 +1,7 @@
 -- the table of protocol actions: what happens at a fault or a thaw
 use Rattle.std.specs.Prelude.{ℕ, ◌+◌, ◌==◌, nat_lt, ◌&&◌, ◌||◌, not, if◌then◌else◌, Bool, true, false, List, [], ◌∷◌, length, Option, Some, None, is_some, is_none, unwrap_or}
 use Rattle.std.specs.List.{fold, list_all}
+use Rattle.plat_base.specs.Verdicts.{Answer}
 use Rattle.plat_base.specs.Machine.{Machine}
 use Rattle.plat_base.specs.Pages.{distance}
 use Rattle.plat_base.specs.Copies.{copy_on, with_frame}
@@ -132,7 +133,7 @@ row_does m Thawed dir frozen node got =
     decision action.Thaw removed.All (after_with (thawed_state dir.state) false dir.copies) false (first_frame dir.copies)
 
 -- the decision for a node and a cause, under a policy's answer
-abbrev pub decide : Machine → (Dir → Option ℕ → ℕ → Verdict) → Dir → Option ℕ → (now node : ℕ) → Cause → Option Frame → Decision
+abbrev pub decide : Machine → Answer → Dir → Option ℕ → (now node : ℕ) → Cause → Option Frame → Decision
 decide m answer dir last now node cause got =
     let v = answer dir last now
     in row_does m (row_of cause dir.state (is_some (copy_on node dir.copies)) (moves_page v got)) dir (frozen_after (asks cause dir node) v dir.frozen) node got
@@ -173,7 +174,7 @@ abbrev pub fits_fault : Machine → Dir → (asked moves : Bool) → ℕ → Opt
 fits_fault m dir asked moves node got =
     if is_empty dir.state then is_some_frame m got else if asked && moves then is_frame_on m node got else is_none got
 
-abbrev pub fits_cause : Machine → (Dir → Option ℕ → ℕ → Verdict) → Dir → Option ℕ → (now node : ℕ) → Cause → Option Frame → Bool
+abbrev pub fits_cause : Machine → Answer → Dir → Option ℕ → (now node : ℕ) → Cause → Option Frame → Bool
 fits_cause m answer dir last now node cause.Read got =
     fits_fault m dir (asks cause.Read dir node) (same_verdict (answer dir last now) verdict.Move) node got
 fits_cause m answer dir last now node cause.Write got =
@@ -181,5 +182,5 @@ fits_cause m answer dir last now node cause.Write got =
 fits_cause m answer dir last now node cause.Thaw got = dir.frozen && is_none got
 
 -- the conditions of a decision
-abbrev pub may_decide : Machine → (Dir → Option ℕ → ℕ → Verdict) → Dir → Option ℕ → (now node : ℕ) → Cause → Option Frame → Bool
+abbrev pub may_decide : Machine → Answer → Dir → Option ℕ → (now node : ℕ) → Cause → Option Frame → Bool
 may_decide m answer dir last now node cause got = is_dir m dir && fits_cause m answer dir last now node cause got

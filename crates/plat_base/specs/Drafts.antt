@@ -1,18 +1,11 @@
 -- a guest's instructions: the forms of their lines, and the numbers of the labels that they name
-use Rattle.std.specs.Prelude.{ℕ, zero, suc, ◌+◌, ◌==◌, nat_lt, nat_le, Bool, true, false, ◌||◌, if◌then◌else◌, List, [], ◌∷◌, ◌++◌, length, position, Option, Some, None, Result, Ok, Err, bytes_eq, codes}
-use Rattle.plat_base.specs.Lines.{lines_of, number_of, is_empty}
+use Rattle.std.specs.Prelude.{ℕ, ◌==◌, nat_lt, nat_le, if◌then◌else◌, List, [], ◌∷◌, ◌++◌, position, Option, Some, None, Result, Ok, Err, bytes_eq, codes}
+use Rattle.plat_base.specs.Lines.{number_of}
 use Rattle.plat_base.specs.Labels.{is_label_name}
-use Rattle.plat_base.specs.Forms.{◌>>=◌, Row, Rest, Stop, rest_of, refused, missing, row_length, row_at, word_at, first_word, read_as, one, exactly, number_in, any_number, number, below, nothing, ◌·◌, made, maybe, chosen, choice, listed, once, opened, line_at, all_with, over}
-use Rattle.plat_base.specs.Machine.{Machine, Program, Turns, robin, random, listed as turns_listed, is_page_size, same_nodes, same_place, same_word, same_name}
-use Rattle.plat_base.specs.Canon.{is_short, most_bytes}
+use Rattle.plat_base.specs.Forms.{◌>>=◌, Row, refused, word_at, read_as, one, any_number, number, nothing, ◌·◌, made, maybe, chosen}
 use Rattle.plat_base.specs.declared.faults.Refused.{Refused}
 use Rattle.plat_base.specs.declared.faults.Why.{Why}
 use Rattle.plat_base.specs.declared.faults.Why.TheVariants as why
-use Rattle.plat_base.specs.declared.policies.PolicyKind.{PolicyKind}
-use Rattle.plat_base.specs.declared.policies.PolicyKind.TheVariants as policy
-use Rattle.plat_base.specs.declared.configs.Distance.{Distance}
-use Rattle.plat_base.specs.declared.configs.Entry.{Entry}
-use Rattle.plat_base.specs.declared.configs.Init.{Init}
 use Rattle.plat_base.specs.declared.guests.Instr.{Instr}
 use Rattle.plat_base.specs.declared.guests.Instr.TheVariants as instr
 use Rattle.plat_base.specs.declared.guests.Label.{Label}

@@ -1,9 +1,8 @@
 -- the reading of a whole machine text over its rows: the machine, or the first fault
-use Rattle.std.specs.Prelude.{ℕ, zero, suc, ◌+◌, ◌==◌, nat_lt, nat_le, Bool, true, false, ◌||◌, if◌then◌else◌, List, [], ◌∷◌, ◌++◌, length, position, Option, Some, None, Result, Ok, Err, bytes_eq, codes}
-use Rattle.plat_base.specs.Lines.{lines_of, number_of, is_empty}
-use Rattle.plat_base.specs.Labels.{is_label_name}
-use Rattle.plat_base.specs.Forms.{◌>>=◌, Row, Rest, Stop, rows_of, refused, missing, row_length, row_at, word_at, first_word, read_as, one, exactly, number_in, any_number, number, below, nothing, ◌·◌, made, maybe, chosen, choice, listed, once, opened, line_at, all_with, over}
-use Rattle.plat_base.specs.Drafts.{Draft, name_of, instructions, instruction_line, code_from}
+use Rattle.std.specs.Prelude.{ℕ, zero, suc, ◌+◌, ◌==◌, nat_lt, nat_le, Bool, ◌||◌, if◌then◌else◌, List, [], ◌∷◌, ◌++◌, length, Result, Ok, Err, bytes_eq, codes}
+use Rattle.plat_base.specs.Lines.{number_of}
+use Rattle.plat_base.specs.Forms.{◌>>=◌, Row, Rest, Stop, rows_of, refused, missing, row_length, row_at, word_at, first_word, read_as, one, exactly, number_in, any_number, number, below, nothing, ◌·◌, made, choice, listed, once, line_at, all_with, over}
+use Rattle.plat_base.specs.Drafts.{Draft, name_of, instruction_line, code_from}
 use Rattle.plat_base.specs.Machine.{Machine, Program, Turns, robin, random, listed as turns_listed, is_page_size, same_nodes, same_place, same_word, same_name}
 use Rattle.plat_base.specs.Canon.{is_short, most_bytes}
 use Rattle.plat_base.specs.declared.faults.Refused.{Refused}
@@ -14,8 +13,6 @@ use Rattle.plat_base.specs.declared.policies.PolicyKind.TheVariants as policy
 use Rattle.plat_base.specs.declared.configs.Distance.{Distance}
 use Rattle.plat_base.specs.declared.configs.Entry.{Entry}
 use Rattle.plat_base.specs.declared.configs.Init.{Init}
-use Rattle.plat_base.specs.declared.guests.Instr.{Instr}
-use Rattle.plat_base.specs.declared.guests.Instr.TheVariants as instr
 use Rattle.plat_base.specs.declared.guests.Label.{Label}
 
 -- ---- the lines before the guests

@@ -1,5 +1,6 @@
 -- the rules of a history, item by item: the first bad item, and good
 use Rattle.std.specs.Prelude.{◌≡◌, ◌≤◌, ℕ, zero, suc, ◌+◌, ◌/◌, ◌==◌, nat_lt, nat_le, ◌&&◌, ◌||◌, not, if◌then◌else◌, Bool, true, false, List, [], ◌∷◌, ◌++◌, length, Option, Some, None, is_none, unwrap_or, slice_get, find}
+use Rattle.plat_base.specs.Verdicts.{Answer}
 use Rattle.plat_base.specs.Machine.{Machine}
 use Rattle.plat_base.specs.Pages.{numbers, entry_at, space_of}
 use Rattle.plat_base.specs.GuestRun.{GuestRun, guest_run, want_of, Operation, Reaches, Switches, Outcome, GoesOn, HasHalted, HasTrapped}
@@ -12,7 +13,6 @@ use Rattle.plat_base.specs.Coarse.{writes_made, cause_of, right_of, ended_of}
 use Rattle.plat_base.specs.Alike.{same_cause, same_action, same_removed, same_dir, same_right}
 use Rattle.plat_base.specs.Copies.{same_frame}
 use Rattle.plat_base.specs.declared.frames.Frame.{Frame}
-use Rattle.plat_base.specs.declared.frames.Dir.{Dir}
 use Rattle.plat_base.specs.declared.items.Action.{Action}
 use Rattle.plat_base.specs.declared.items.Action.TheVariants as action
 use Rattle.plat_base.specs.declared.items.Cause.TheVariants as cause
@@ -31,7 +31,6 @@ use Rattle.plat_base.specs.declared.endings.End.TheVariants as end
 use Rattle.plat_base.specs.declared.endings.Ended.{Ended}
 use Rattle.plat_base.specs.declared.guests.Want.{Want}
 use Rattle.plat_base.specs.declared.guests.Want.TheVariants as want
-use Rattle.plat_base.specs.declared.policies.Verdict.{Verdict}
 use Rattle.plat_base.specs.declared.policies.Decision.{Decision}
 use Rattle.plat_base.specs.declared.policies.PolicyKind.{PolicyKind}
 use Rattle.plat_base.specs.declared.policies.PolicyKind.TheVariants as policy
@@ -56,10 +55,12 @@ is_switch_next None space = false
 is_switch_next (Some (Reaches r)) space = false
 is_switch_next (Some (Switches s)) space = s == space
 
+-- the access is the next operation of its actor's guest
 abbrev pub is_ordered_access : Machine → List Item → Access → Bool
 is_ordered_access m items a =
     nat_lt a.actor m.nodes && is_frame m a.frame && is_access_next (next_operation m items a.actor) a
 
+-- the switch is the next operation of its actor's guest
 abbrev pub is_ordered_switch : Machine → List Item → Switch → Bool
 is_ordered_switch m items s = nat_lt s.actor m.nodes && is_switch_next (next_operation m items s.actor) s.space
 
@@ -72,6 +73,7 @@ abbrev pub is_grant_of : Access → Option Translation → Bool
 is_grant_of a None = false
 is_grant_of a (Some t) = same_frame t.grant.frame a.frame && t.seq == a.grant
 
+-- the actor holds the access's translation with enough right, and no later change of the page took it or that right away
 abbrev pub is_granted : Machine → List Item → Access → Bool
 is_granted m items a =
     let t = held m items a.actor (entry_of_access m a)
@@ -80,6 +82,7 @@ is_granted m items a =
 
 -- ---- legal: the access of flat memory
 
+-- the access finds the value of flat memory, and its version counts the writes to its word
 abbrev pub is_legal : Machine → List Item → Access → Bool
 is_legal m items a =
     nat_lt a.page m.pages && nat_lt a.word m.words && a.old == flat_value m items a.page a.word
@@ -111,14 +114,14 @@ is_fault_of m items c g (Some (Reaches r)) =
     nat_lt g.entry (length m.entries) && g.entry == unwrap_or (entry_at m r.space (r.addr / m.words)) (length m.entries)
     && r.page == c.page && same_cause (cause_of r.kind) c.cause && not (has_right r.kind (held m items c.actor g.entry))
 
-abbrev pub is_fault_decision : Machine → (Dir → Option ℕ → ℕ → Verdict) → List Item → Change → Grant → Bool
+abbrev pub is_fault_decision : Machine → Answer → List Item → Change → Grant → Bool
 is_fault_decision m answer items c g =
     let last = last_of items c.page in let got = got_named c.action g in
     let d = decide m answer c.before last c.time c.actor c.cause got
     in may_decide m answer c.before last c.time c.actor c.cause got && is_decided d c && same_frame d.frame g.frame
     && same_right g.right (right_of c.cause)
 
-abbrev pub is_fault_change : Machine → (Dir → Option ℕ → ℕ → Verdict) → List Item → Change → Option Grant → Bool
+abbrev pub is_fault_change : Machine → Answer → List Item → Change → Option Grant → Bool
 is_fault_change m answer items c None = false
 is_fault_change m answer items c (Some g) =
     is_fault_of m items c g (next_operation m items c.actor) && is_fault_decision m answer items c g
@@ -128,14 +131,15 @@ has_daemon policy.Place = false
 has_daemon policy.Replicate = false
 has_daemon (policy.Platinum t1 t2) = true
 
-abbrev pub is_thaw_change : Machine → (Dir → Option ℕ → ℕ → Verdict) → List Item → Change → Bool
+abbrev pub is_thaw_change : Machine → Answer → List Item → Change → Bool
 is_thaw_change m answer items c =
     let last = last_of items c.page
     in has_daemon m.policy && same_cause c.cause cause.Thaw && is_none c.granted
     && may_decide m answer c.before last c.time c.actor cause.Thaw None
     && is_decided (decide m answer c.before last c.time c.actor cause.Thaw None) c
 
-abbrev pub is_chained : Machine → (Dir → Option ℕ → ℕ → Verdict) → List Item → Change → Bool
+-- the change has the page's next number and directory, and is what a fault or a thaw decides
+abbrev pub is_chained : Machine → Answer → List Item → Change → Bool
 is_chained m answer items c =
     nat_lt c.page m.pages && c.seq == seq_of items c.page && same_dir c.before (dir_of items c.page)
     && (if nat_lt c.actor m.nodes then is_fault_change m answer items c c.granted
@@ -148,6 +152,7 @@ may_apply msg None = false
 may_apply message.Invalidate (Some t) = true
 may_apply message.Restrict (Some t) = not t.restricted
 
+-- the message finds a translation that it can be applied to, in the space that its actor is active in
 abbrev pub is_answered : Machine → List Item → Applied → Bool
 is_answered m items x =
     nat_lt x.actor m.nodes && nat_lt x.entry (length m.entries) && active m items x.actor == space_of m x.entry
@@ -227,7 +232,7 @@ first_rule None other = other
 first_rule (Some r) other = Some r
 
 -- the rule that an item breaks after these items
-abbrev pub bad_rule : Machine → (Dir → Option ℕ → ℕ → Verdict) → List Item → Item → Option Rule
+abbrev pub bad_rule : Machine → Answer → List Item → Item → Option Rule
 bad_rule m answer items (item.Access a) =
     first_rule (unless (is_ordered_access m items a) rule.Order)
     (first_rule (unless (is_granted m items a) rule.Grant) (unless (is_legal m items a) rule.Legal))
@@ -240,7 +245,7 @@ bad_at n None later_bad = later_bad
 bad_at n (Some r) later_bad = Some (record { item = n; rule = r })
 
 -- the first bad one of these items, which stand behind those before; the first of them has number n
-abbrev pub bad_after : Machine → (Dir → Option ℕ → ℕ → Verdict) → List Item → ℕ → List Item → Option Bad
+abbrev pub bad_after : Machine → Answer → List Item → ℕ → List Item → Option Bad
 bad_after m answer before n [] = None
 bad_after m answer before n (i ∷ is) =
     bad_at n (bad_rule m answer before i) (bad_after m answer (before ++ i ∷ []) (n + 1) is)
@@ -256,11 +261,11 @@ abbrev pub bad_or : Option Bad → Option Bad → Option Bad
 bad_or None other = other
 bad_or (Some b) other = Some b
 
-unfoldable pub first_bad : Machine → (Dir → Option ℕ → ℕ → Verdict) → List Item → List Ended → Option Bad
+unfoldable pub first_bad : Machine → Answer → List Item → List Ended → Option Bad
 first_bad m answer items ends = bad_or (bad_after m answer [] 0 items) (bad_ends m items ends)
 
 -- no item and no end breaks a rule
-abbrev pub Good : Machine → (Dir → Option ℕ → ℕ → Verdict) → List Item → List Ended → Type 0
+abbrev pub Good : Machine → Answer → List Item → List Ended → Type 0
 Good m answer items ends = first_bad m answer items ends ≡ None
 
 -- there is a frame for each page on each module

@@ -1,11 +1,10 @@
 -- schedules: which live actor is next
 use Rattle.std.specs.Prelude.{ℕ, zero, suc, ◌+◌, ◌-◌, ◌*◌, ◌/◌, ◌%◌, ◌^◌, ◌==◌, nat_lt, bit_xor, if◌then◌else◌, List, [], ◌∷◌, length, find, filter, Option, Some, None, slice_get}
 use Rattle.std.specs.List.{list_any}
+use Rattle.plat_base.specs.Verdicts.{Answer}
 use Rattle.plat_base.specs.Machine.{Machine, Turns, robin, random, listed}
 use Rattle.plat_base.specs.Pages.{numbers}
 use Rattle.plat_base.specs.Coarse.{Coarse, coarse_start, is_live, turn}
-use Rattle.plat_base.specs.declared.frames.Dir.{Dir}
-use Rattle.plat_base.specs.declared.policies.Verdict.{Verdict}
 
 -- where a schedule stands: the actor chosen last, what is left of a list, and the state of the random generator
 pub record Chooser : Type 0 where
@@ -81,21 +80,21 @@ pub record Scheduled : Type 0 where
 abbrev pub live_processors : Machine → Coarse → List ℕ
 live_processors m s = filter (is_live s.ends) (numbers m.nodes)
 
-abbrev pub with_choice : Machine → (Dir → Option ℕ → ℕ → Verdict) → Scheduled → Option (ℕ × Chooser) → Scheduled
+abbrev pub with_choice : Machine → Answer → Scheduled → Option (ℕ × Chooser) → Scheduled
 with_choice m answer x None = x
 with_choice m answer x (Some c) = record { coarse = turn m answer x.coarse c.0; chooser = c.1 }
 
-abbrev pub scheduled_turn : Machine → (Dir → Option ℕ → ℕ → Verdict) → Scheduled → Scheduled
+abbrev pub scheduled_turn : Machine → Answer → Scheduled → Scheduled
 scheduled_turn m answer x = with_choice m answer x (choose m.schedule (live_processors m x.coarse) x.chooser)
 
 abbrev pub schedule_start : Machine → Scheduled
 schedule_start m = record { coarse = coarse_start m; chooser = chooser_start m.schedule }
 
 -- the run after so many turns, or as it ended before
-abbrev pub scheduled : Machine → (Dir → Option ℕ → ℕ → Verdict) → ℕ → Scheduled
+abbrev pub scheduled : Machine → Answer → ℕ → Scheduled
 scheduled m answer zero = schedule_start m
 scheduled m answer (suc k) = scheduled_turn m answer (scheduled m answer k)
 
 -- the coarse run; each turn counts towards one processor's budget, so after nodes * budget turns nobody is live
-unfoldable pub coarse_run : Machine → (Dir → Option ℕ → ℕ → Verdict) → Coarse
+unfoldable pub coarse_run : Machine → Answer → Coarse
 coarse_run m answer = (scheduled m answer (m.nodes * m.budget)).coarse

@@ -7,12 +7,17 @@ use Rattle.plat_base.specs.declared.policies.Verdict.TheVariants.{Stay, Freeze, 
 use Rattle.plat_base.specs.declared.policies.PolicyKind.{PolicyKind}
 use Rattle.plat_base.specs.declared.policies.PolicyKind.TheVariants.{Place, Replicate, Platinum}
 
+-- what a policy answers, of the directory of a page, its last invalidation and the tick
+abbrev pub Answer : Type 0
+Answer = Dir → Option ℕ → ℕ → Verdict
+
 -- an invalidation within the window of t1 ticks; a tick earlier than the last invalidation counts as recent
 abbrev pub is_recent : ℕ → Option ℕ → ℕ → Bool
 is_recent t1 None now = false
 is_recent t1 (Some last) now = nat_lt now (last + t1)
 
-abbrev pub policy_answer : PolicyKind → Dir → Option ℕ → ℕ → Verdict
+-- what the three policies answer
+abbrev pub policy_answer : PolicyKind → Answer
 policy_answer Place dir last now = Stay
 policy_answer Replicate dir last now = Move
 policy_answer (Platinum t1 t2) dir last now =

@@ -132,7 +132,7 @@ pub struct Switch {
     pub space: u32,
 }
 
-/// One item of a history. The actor of a change may be the daemon, whose number is that of the nodes.
+/// One item of a history. The actor of a change may be the daemon, whose number is the number of nodes.
 #[derive(Clone, Copy, Debug, PartialEq, Eq)]
 pub enum Item {
     Access(Access),

@@ -36,9 +36,9 @@ pub trait Policy {
 /// The policies that a machine text can name. A tick is one turn of any processor.
 #[derive(Clone, Copy, Debug, PartialEq, Eq)]
 pub enum PolicyKind {
-    /// No page moves.
+    /// A page stays where it was touched first.
     Place,
-    /// Every page moves.
+    /// A fault on a node without a copy brings the page there, where the node has a free frame.
     Replicate,
     /// A page whose last invalidation is less than `t1` ticks old is frozen, and other pages move; a daemon thaws the
     /// frozen pages every `t2` ticks (Cox and Fowler 1989). `t1` is 0 to 1,000,000, and `t2` 64 to 1,000,000.

@@ -80,7 +80,7 @@ pub record HasRun {K : Type 0} (sink : Ghosts K) (m : Machine) (old new : K) (no
   -- every processor ended
   pub over : (q : ℕ) → q < m.nodes → (ended_of (ends_of m) q).end ≢ end.Cut
   -- and none for want of a frame where there are enough
-  pub fed : HasEnoughFrames m → (q : ℕ) → q < m.nodes → (ended_of (ends_of m) q).end ≢ end.NoFrames
+  pub framed : HasEnoughFrames m → (q : ℕ) → q < m.nodes → (ended_of (ends_of m) q).end ≢ end.NoFrames
   -- printed values, final memory and counts are this history's
   pub written : IsWritten sink old new now (report m kept (ends_of m))
   pub ended : IsOrWriteFault (status_of (ends_of m) false) now

@@ -1,6 +1,5 @@
 -- the daemon's pass, page by page
-use Rattle.std.proofs.Common.{◌≡◌, ℕ, ◌+◌, ◌%◌, ◌<◌, ◌≤◌, List, length, true, refl, sym, ap, ◌∙◌, subst, arith}
-use Rattle.std.specs.Prelude.{Option}
+use Rattle.std.proofs.Common.{◌≡◌, ℕ, ◌+◌, ◌%◌, ◌<◌, ◌≤◌, List, length, true, sym, ap, ◌∙◌, subst, arith}
 use Rattle.std.specs.List.{fold}
 use Rattle.std.proofs.lemmas.Grind.{fold-append}
 use Rattle.std.proofs.lemmas.Bool.Decides.{nat_tests}
@@ -9,14 +8,12 @@ use Rattle.plat_base.specs.Pages.{numbers}
 use Rattle.plat_base.specs.Directories.{dir_of}
 use Rattle.plat_base.specs.Decide.{is_dir}
 use Rattle.plat_base.specs.Coarse.{Coarse, thaw, daemon, is_pass}
-use Rattle.plat_base.specs.Verdicts.{policy_answer}
+use Rattle.plat_base.specs.Verdicts.{Answer, policy_answer}
 use Rattle.plat_base.specs.declared.endings.Ended.{Ended}
 use Rattle.plat_coarse.specs.Chronicle.{Chronicled}
 use Rattle.plat_coarse.specs.Running.{state_of}
-use Rattle.plat_base.specs.declared.frames.Dir.{Dir}
 use Rattle.plat_base.specs.declared.policies.PolicyKind.{PolicyKind}
 use Rattle.plat_base.specs.declared.policies.PolicyKind.TheVariants as policy
-use Rattle.plat_base.specs.declared.policies.Verdict.{Verdict}
 use Rattle.plat_laws.specs.Sound.{Sound}
 use Rattle.plat_laws.proofs.TurnItemLaws.{has_daemon-is_pass}
 use Rattle.plat_laws.proofs.TurnLaws.{thaws_sound}
@@ -27,22 +24,22 @@ pub pass_at : (p : PolicyKind) (t1 t2 now : ℕ) → p ≡ policy.Platinum t1 t2
 pass_at p t1 t2 now is divides = rw is (grind (arith, nat_tests))
 
 -- the run once the pages below this one are thawed
-abbrev pub thawed_below : Machine → (Dir → Option ℕ → ℕ → Verdict) → ℕ → Coarse → ℕ → Coarse
+abbrev pub thawed_below : Machine → Answer → ℕ → Coarse → ℕ → Coarse
 thawed_below m answer now s page = fold (thaw m answer now) s (numbers page)
 
-pub thawed_below-more : (m : Machine) (answer : Dir → Option ℕ → ℕ → Verdict) (now : ℕ) (s : Coarse) (page : ℕ)
+pub thawed_below-more : (m : Machine) (answer : Answer) (now : ℕ) (s : Coarse) (page : ℕ)
     → thawed_below m answer now s (page + 1) ≡ thaw m answer now (thawed_below m answer now s page) page
 thawed_below-more m answer now s page =
     ap (fold (thaw m answer now) s) (numbers-more page) ∙ fold-append (thaw m answer now) s (numbers page) _
 
-pub thawed_below-dir : (m : Machine) (answer : Dir → Option ℕ → ℕ → Verdict) (now : ℕ) (s : Coarse) (page : ℕ) → Sound m answer s
+pub thawed_below-dir : (m : Machine) (answer : Answer) (now : ℕ) (s : Coarse) (page : ℕ) → Sound m answer s
     → is_pass m.policy now ≡ true → page < m.pages → is_dir m (dir_of (thawed_below m answer now s page).history page) ≡ true
 thawed_below-dir m answer now s page sound pass inside =
     let below : Sound m answer (thawed_below m answer now s page) =
     thaws_sound m answer s now 0 page sound (has_daemon-is_pass m.policy now pass) (omega arith) in
     (below.settled.page page inside).dir
 
-pub thawed_below-length : (m : Machine) (answer : Dir → Option ℕ → ℕ → Verdict) (now : ℕ) (s : Coarse) (page : ℕ)
+pub thawed_below-length : (m : Machine) (answer : Answer) (now : ℕ) (s : Coarse) (page : ℕ)
     → is_pass m.policy now ≡ true → page < m.pages
     → length (thaw m answer now (thawed_below m answer now s page) page).history ≤ length (daemon m answer now s).history
 thawed_below-length m answer now s page pass inside =

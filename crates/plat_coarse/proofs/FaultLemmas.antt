@@ -1,29 +1,27 @@
 -- what a fault asks for and makes
-use Rattle.std.proofs.Common.{◌≡◌, ◌≢◌, ℕ, ◌<◌, List, [], ◌∷◌, ◌++◌, length, Bool, true, false, ◌&&◌, refl, sym, ap, ◌∙◌, arith}
-use Rattle.std.specs.Prelude.{Option, Some, None, is_none, IsTrue, if◌then◌else◌}
+use Rattle.std.proofs.Common.{◌≡◌, ◌≢◌, ℕ, ◌<◌, List, Bool, true, false, ◌&&◌, refl, arith}
+use Rattle.std.specs.Prelude.{Some, is_none}
 use Rattle.std.proofs.lemmas.Bool.Decides.{nat_tests}
+use Rattle.plat_base.specs.Verdicts.{Answer}
 use Rattle.plat_base.specs.Machine.{Machine}
 use Rattle.plat_base.specs.Directories.{dir_of, last_of}
-use Rattle.plat_base.specs.Decide.{is_dir, is_empty, fits_cause, may_decide, decide}
-use Rattle.plat_base.specs.Coarse.{got_frame, is_starved, nearest_free, decided, access_by}
+use Rattle.plat_base.specs.Decide.{is_dir, is_empty, fits_cause}
+use Rattle.plat_base.specs.Coarse.{got_frame, is_starved, decided, access_by}
 use Rattle.plat_base.specs.GuestRun.{Reach}
 use Rattle.plat_base.specs.Flat.{flat_value, flat_writes}
 use Rattle.plat_base.specs.Rules.{is_legal}
 use Rattle.plat_base.specs.declared.frames.Frame.{Frame}
-use Rattle.plat_base.specs.declared.frames.Dir.{Dir}
 use Rattle.plat_base.specs.declared.items.Cause.{Cause}
 use Rattle.plat_base.specs.declared.items.Cause.TheVariants as cause
 use Rattle.plat_base.specs.declared.items.Access.{Access}
 use Rattle.plat_base.specs.declared.items.Item.{Item}
 use Rattle.plat_base.specs.declared.items.Item.TheVariants as item
-use Rattle.plat_base.specs.declared.policies.Decision.{Decision}
-use Rattle.plat_base.specs.declared.policies.Verdict.{Verdict}
 use Rattle.plat_laws.proofs.FrameLaws.{got_fits}
 use Rattle.plat_laws.proofs.Limits.{and-right}
 use Rattle.plat_coarse.specs.Reached.{decided_if_fed}
 
 -- a fault that got no frame for an empty page is starved
-pub starved-got : (m : Machine) (answer : Dir → Option ℕ → ℕ → Verdict) (items : List Item) (q p now : ℕ) (c : Cause)
+pub starved-got : (m : Machine) (answer : Answer) (items : List Item) (q p now : ℕ) (c : Cause)
     → (is_empty (dir_of items p).state && is_none (got_frame m answer items q p now c)) ≡ is_starved m items q p
 starved-got m answer items q p now c = by (is_empty (dir_of items p).state) refl where
   by : (v : Bool) → is_empty (dir_of items p).state ≡ v
@@ -31,13 +29,13 @@ starved-got m answer items q p now c = by (is_empty (dir_of items p).state) refl
   by true e = rw e refl
   by false e = rw e refl
 
-pub fits-fed : (m : Machine) (answer : Dir → Option ℕ → ℕ → Verdict) (items : List Item) (q p now : ℕ) (c : Cause)
+pub fits-fed : (m : Machine) (answer : Answer) (items : List Item) (q p now : ℕ) (c : Cause)
     → is_dir m (dir_of items p) ≡ true → q < m.nodes → is_starved m items q p ≡ false → c ≢ cause.Thaw
     → fits_cause m answer (dir_of items p) (last_of items p) now q c (got_frame m answer items q p now c) ≡ true
 fits-fed m answer items q p now c dir node fed fault =
     and-right (is_dir m (dir_of items p)) _ (got_fits m answer items q p now c dir node fed fault)
 
-pub decided-fed : (m : Machine) (answer : Dir → Option ℕ → ℕ → Verdict) (items : List Item) (q p now : ℕ) (c : Cause)
+pub decided-fed : (m : Machine) (answer : Answer) (items : List Item) (q p now : ℕ) (c : Cause)
     → is_starved m items q p ≡ false → decided_if_fed m answer items q p now c ≡ Some (decided m answer items q p now c)
 decided-fed m answer items q p now c fed = rw fed refl
 

@@ -1,6 +1,7 @@
 -- the state of a guest after its turn
-use Rattle.std.proofs.Common.{◌≡◌, ◌≢◌, ℕ, suc, ◌+◌, ◌/◌, ◌<◌, List, [], ◌∷◌, ◌++◌, length, Bool, true, false, refl, sym, ap, ◌∙◌, arith}
+use Rattle.std.proofs.Common.{◌≡◌, ◌≢◌, ℕ, ◌+◌, ◌/◌, ◌<◌, List, [], ◌∷◌, ◌++◌, length, Bool, true, false, refl, sym, ap, ◌∙◌}
 use Rattle.std.proofs.lemmas.List.{append-nil}
+use Rattle.plat_base.specs.Verdicts.{Answer}
 use Rattle.plat_base.specs.Directories.{dir_of}
 use Rattle.std.proofs.Common.{add-one}
 use Rattle.std.specs.Prelude.{unwrap_or}
@@ -9,23 +10,19 @@ use Rattle.plat_base.specs.declared.endings.Ended.{Ended}
 use Rattle.plat_laws.specs.Sound.{IsGuest}
 use Rattle.plat_laws.proofs.RunLaws.{made_in, turn-ends, ended_of-set_other, ended_of-set_same}
 use Rattle.std.specs.Prelude.{Option, Some, None, if◌then◌else◌}
-use Rattle.std.specs.List.{fold, range_with_len}
-use Rattle.std.proofs.lemmas.Bool.Decides.{nat_tests}
+use Rattle.std.specs.List.{fold}
 use Rattle.plat_base.specs.Machine.{Machine}
 use Rattle.plat_base.specs.Pages.{numbers}
 use Rattle.plat_base.specs.GuestRun.{GuestRun, Reach, guest_run, guest_after, guest_does, want_of, reach_of}
 use Rattle.plat_base.specs.Done.{values_of, reads_word}
 use Rattle.plat_base.specs.Flat.{flat_value}
 use Rattle.plat_base.specs.Held.{held, has_right}
-use Rattle.plat_base.specs.Coarse.{Coarse, Made, is_live, is_starved, fault_made, access_made, made_by, guest_now, time_of, decided, cause_of, thaw, thaw_items, fault_items, switch_items, access_by, daemon, is_pass, turn, ended_of, with_made}
-use Rattle.plat_base.specs.declared.frames.Dir.{Dir}
-use Rattle.plat_base.specs.declared.policies.Verdict.{Verdict}
+use Rattle.plat_base.specs.Coarse.{Coarse, is_starved, fault_made, access_made, made_by, guest_now, time_of, decided, cause_of, thaw, thaw_items, fault_items, switch_items, access_by, daemon, is_pass, turn, ended_of, with_made}
 use Rattle.plat_base.specs.declared.guests.Want.{Want}
 use Rattle.plat_base.specs.declared.guests.Want.TheVariants as want
 use Rattle.plat_base.specs.declared.items.Kind.TheVariants as kind
 use Rattle.plat_base.specs.declared.items.Item.{Item}
 use Rattle.plat_base.specs.declared.items.Translation.{Translation}
-use Rattle.plat_base.specs.declared.endings.End.{End}
 use Rattle.plat_base.specs.declared.endings.End.TheVariants as end
 use Rattle.plat_laws.proofs.TurnItemLaws as turn_items
 use Rattle.plat_laws.proofs.GuestLaws.{guest_run-next, slice_get-append_at, values_of-append}
@@ -43,7 +40,7 @@ values_wanted m items (want.Print value) = []
 values_wanted m items want.Halted = []
 values_wanted m items want.Trap = []
 
-module _ (m : Machine) (answer : Dir → Option ℕ → ℕ → Verdict) (s : Coarse) (q now : ℕ) where
+module _ (m : Machine) (answer : Answer) (s : Coarse) (q now : ℕ) where
   fault_values : (entry : ℕ) (r : Reach) (v : Bool) → is_starved m s.history q r.page ≡ v
       → (fault_made m answer s q now entry r).end ≡ end.Cut
       → values_of q (fault_made m answer s q now entry r).items ≡ (if reads_word r.kind then flat_value m s.history r.page r.word ∷ [] else [])
@@ -92,7 +89,7 @@ state-does m q items vs r (want.Print value) used more = refl
 state-does m q items vs r want.Halted used more = absurd (cc)
 state-does m q items vs r want.Trap used more = absurd (cc)
 
-pub made-more : (m : Machine) (answer : Dir → Option ℕ → ℕ → Verdict) (s : Coarse) (q now : ℕ) (w : Want)
+pub made-more : (m : Machine) (answer : Answer) (s : Coarse) (q now : ℕ) (w : Want)
     → (made_by m answer s q now w).end ≡ end.Cut → wants_more w ≡ true
 made-more m answer s q now want.Local h = refl
 made-more m answer s q now (want.Access k sp a o) h = refl
@@ -103,7 +100,7 @@ made-more m answer s q now want.Trap h = absurd (cc)
 
 -- ---- a turn's values
 
-values_of-thaw : (m : Machine) (answer : Dir → Option ℕ → ℕ → Verdict) (now : ℕ) (s : Coarse) (page r : ℕ)
+values_of-thaw : (m : Machine) (answer : Answer) (now : ℕ) (s : Coarse) (page r : ℕ)
     → values_of r (thaw m answer now s page).history ≡ values_of r s.history
 values_of-thaw m answer now s page r = by (dir_of s.history page).frozen where
   none : values_of r (s.history ++ thaw_items m answer s now page) ≡ values_of r s.history
@@ -114,26 +111,26 @@ values_of-thaw m answer now s page r = by (dir_of s.history page).frozen where
   by true = none
   by false = refl
 
-values_of-thaws : (m : Machine) (answer : Dir → Option ℕ → ℕ → Verdict) (now : ℕ) (s : Coarse) (pages : List ℕ) (r : ℕ)
+values_of-thaws : (m : Machine) (answer : Answer) (now : ℕ) (s : Coarse) (pages : List ℕ) (r : ℕ)
     → values_of r (fold (thaw m answer now) s pages).history ≡ values_of r s.history
 values_of-thaws m answer now s [] r = refl
 values_of-thaws m answer now s (p ∷ ps) r = values_of-thaws m answer now (thaw m answer now s p) ps r ∙ values_of-thaw m answer now s p r
 
-values_of-daemon : (m : Machine) (answer : Dir → Option ℕ → ℕ → Verdict) (now : ℕ) (s : Coarse) (r : ℕ)
+values_of-daemon : (m : Machine) (answer : Answer) (now : ℕ) (s : Coarse) (r : ℕ)
     → values_of r (daemon m answer now s).history ≡ values_of r s.history
 values_of-daemon m answer now s r = by (is_pass m.policy now) where
   by : (v : Bool) → values_of r (if v then fold (thaw m answer now) s (numbers m.pages) else s).history ≡ values_of r s.history
   by true = values_of-thaws m answer now s (numbers m.pages) r
   by false = refl
 
-pub values_of-turn : (m : Machine) (answer : Dir → Option ℕ → ℕ → Verdict) (s : Coarse) (q r : ℕ)
+pub values_of-turn : (m : Machine) (answer : Answer) (s : Coarse) (q r : ℕ)
     → values_of r (turn m answer s q).history ≡ values_of r s.history ++ values_of r (made_in m answer s q).items
 values_of-turn m answer s q r =
     values_of-daemon m answer (time_of s.ends + 1) (with_made m s q (made_in m answer s q)) r
     ∙ values_of-append r s.history (made_in m answer s q).items
 
 -- the turn of q gives another processor's guest no value
-others_fault : (m : Machine) (answer : Dir → Option ℕ → ℕ → Verdict) (s : Coarse) (q now entry r : ℕ) (reach : Reach) → q ≢ r
+others_fault : (m : Machine) (answer : Answer) (s : Coarse) (q now entry r : ℕ) (reach : Reach) → q ≢ r
     → values_of r (fault_made m answer s q now entry reach).items ≡ []
 others_fault m answer s q now entry r reach other = by (is_starved m s.history q reach.page) refl where
   by : (v : Bool) → is_starved m s.history q reach.page ≡ v → values_of r (fault_made m answer s q now entry reach).items ≡ []
@@ -142,7 +139,7 @@ others_fault m answer s q now entry r reach other = by (is_starved m s.history q
       (values_of-no_operations r (fault_items m s q now entry reach (decided m answer s.history q reach.page now (cause_of reach.kind)))
       (turn_items.fault_items-operations_other m s q now entry reach (decided m answer s.history q reach.page now (cause_of reach.kind)) r other))
 
-others_through : (m : Machine) (answer : Dir → Option ℕ → ℕ → Verdict) (s : Coarse) (q now entry r : ℕ) (reach : Reach) (t : Option Translation) → q ≢ r
+others_through : (m : Machine) (answer : Answer) (s : Coarse) (q now entry r : ℕ) (reach : Reach) (t : Option Translation) → q ≢ r
     → values_of r (access_made m answer s q now entry reach t).items ≡ []
 others_through m answer s q now entry r reach None other = others_fault m answer s q now entry r reach other
 others_through m answer s q now entry r reach (Some t) other = by (has_right reach.kind (Some t)) refl where
@@ -152,7 +149,7 @@ others_through m answer s q now entry r reach (Some t) other = by (has_right rea
       (turn_items.access_by-operations_other m s.history q reach t.grant.frame t.seq r other))
   by false e = rw e (others_fault m answer s q now entry r reach other)
 
-pub values-others : (m : Machine) (answer : Dir → Option ℕ → ℕ → Verdict) (s : Coarse) (q now r : ℕ) (w : Want) → q ≢ r
+pub values-others : (m : Machine) (answer : Answer) (s : Coarse) (q now r : ℕ) (w : Want) → q ≢ r
     → values_of r (made_by m answer s q now w).items ≡ []
 values-others m answer s q now r want.Local other = refl
 values-others m answer s q now r (want.Access kind space addr operand) other =
@@ -167,7 +164,7 @@ values-others m answer s q now r want.Trap other = refl
 -- ---- the guests after a turn
 
 -- a processor other than the one whose turn it is keeps its guest as it was
-pub guest_now-other : (m : Machine) (answer : Dir → Option ℕ → ℕ → Verdict) (s : Coarse) (q r : ℕ) → q ≢ r
+pub guest_now-other : (m : Machine) (answer : Answer) (s : Coarse) (q r : ℕ) → q ≢ r
     → guest_now m (turn m answer s q) r ≡ guest_now m s r
 guest_now-other m answer s q r other =
     let values = values_of-turn m answer s q r
@@ -178,7 +175,7 @@ guest_now-other m answer s q r other =
     ap (λ (vs : List ℕ). guest_run m r vs (ended_of (turn m answer s q).ends r).turns) values ∙ ap (λ (t : ℕ). guest_run m r (values_of r s.history) t) turns
 
 -- the guest whose turn it was has executed its instruction on the word that it found
-pub guest_now-own : (m : Machine) (answer : Dir → Option ℕ → ℕ → Verdict) (s : Coarse) (q : ℕ) → q < length s.ends
+pub guest_now-own : (m : Machine) (answer : Answer) (s : Coarse) (q : ℕ) → q < length s.ends
     → IsGuest m s.history (ended_of s.ends q).turns q → (made_in m answer s q).end ≡ end.Cut
     → (guest_now m (turn m answer s q) q).state
     ≡ guest_after m q (guest_now m s q).state (value_found m s.history (want_of m q (guest_now m s q).state))

@@ -1,9 +1,7 @@
 -- an item that a part of the engine's state does not look at leaves it showing the history
-use Rattle.std.proofs.Common.{◌≡◌, ℕ, ◌<◌, List, [], ◌∷◌, ◌++◌, Bool, false, refl, arith}
-use Rattle.std.proofs.lemmas.Bool.Decides.{nat_tests}
+use Rattle.std.proofs.Common.{◌≡◌, ℕ, List, [], ◌∷◌, ◌++◌, false, refl, arith}
 use Rattle.plat_laws.proofs.ItemLaws as laws
 use Rattle.plat_base.specs.Machine.{Machine}
-use Rattle.plat_base.specs.Coarse.{is_owed_for}
 use Rattle.plat_base.specs.Held.{removes_all, removes_writes}
 use Rattle.plat_base.specs.declared.items.Item.{Item}
 use Rattle.plat_base.specs.declared.items.Item.TheVariants as item

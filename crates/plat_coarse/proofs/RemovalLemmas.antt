@@ -1,5 +1,5 @@
 -- the greatest numbers of removing changes, against the history
-use Rattle.std.proofs.Common.{◌≡◌, ℕ, zero, suc, ◌+◌, ◌<◌, max, List, [], ◌∷◌, ◌++◌, length, get_or, set, Bool, true, false, ◌&&◌, ◌||◌, not, refl, arith}
+use Rattle.std.proofs.Common.{◌≡◌, ℕ, zero, suc, ◌+◌, ◌<◌, max, List, [], ◌∷◌, ◌++◌, length, get_or, set, Bool, true, false, ◌&&◌, ◌||◌, not, arith}
 use Rattle.std.specs.Prelude.{◌==◌, nat_lt, if◌then◌else◌}
 use Rattle.std.proofs.Common.{inl, inr}
 use Rattle.std.proofs.lemmas.Bool.{cases_eq}
@@ -15,7 +15,7 @@ use Rattle.std.proofs.lemmas.List.Folds.{list_any-append}
 use Rattle.std.proofs.lemmas.List.{length-set}
 use Rattle.std.proofs.Common.{◌≤◌}
 use Rattle.plat_base.specs.Held.{removes_all, removes_writes}
-use Rattle.plat_base.specs.declared.items.Removed.TheVariants.{Nothing, Writes, All}
+use Rattle.plat_base.specs.declared.items.Removed.TheVariants.{Writes, All}
 use Rattle.plat_coarse.specs.declared.removals.Highest.{Highest}
 use Rattle.plat_coarse.specs.Removals.{is_other, is_some_other, no_removal, ShowsRemovals}
 

@@ -1,11 +1,9 @@
 -- the limits that bound a run's history
-use Rattle.std.proofs.Common.{◌≡◌, ℕ, ◌*◌, ◌/◌, ◌≤◌, ◌^◌, arith}
+use Rattle.std.proofs.Common.{ℕ, ◌*◌, ◌/◌, ◌≤◌, arith}
 use Rattle.std.proofs.Math.Nat.{mul-le-mul_left, mul_comm, div-le_of_le-mul}
 use Rattle.plat_base.specs.Seen.{machine}
 use Rattle.plat_base.specs.declared.configs.Config.{Config}
-use Rattle.plat_base.specs.declared.policies.PolicyKind.{PolicyKind}
-use Rattle.plat_base.specs.declared.policies.PolicyKind.TheVariants as policy
-use Rattle.plat_laws.proofs.Limits.{nodes-most, budget-most, pages-most, platinum-limits}
+use Rattle.plat_laws.proofs.Limits.{nodes-most, budget-most, pages-most}
 
 pub product_most : (a b c d : ℕ) → a ≤ c → b ≤ d → a * b ≤ c * d
 product_most a b c d h k = omega (arith, mul-le-mul_left a k, mul-le-mul_left d h, mul_comm a d, mul_comm c d)

@@ -1,5 +1,5 @@
 -- the start spaces of a machine's guests
-use Rattle.std.proofs.Common.{◌≡◌, ℕ, zero, suc, ◌+◌, ◌<◌, List, [], ◌∷◌, length, refl, arith}
+use Rattle.std.proofs.Common.{◌≡◌, ℕ, zero, suc, ◌<◌, List, [], ◌∷◌, length, refl, arith}
 use Rattle.std.specs.Prelude.{slice_index_or}
 use Rattle.plat_base.specs.Machine.{programs_seen}
 use Rattle.plat_base.specs.Pages.{no_program}

@@ -1,15 +1,15 @@
 -- before its first turn the engine follows the empty history
-use Rattle.std.proofs.Common.{◌≡◌, ℕ, ◌+◌, ◌<◌, ◌≤◌, List, [], length, true, refl, sym, ap, ◌∙◌, subst, arith}
+use Rattle.std.proofs.Common.{◌≡◌, ℕ, ◌<◌, ◌≤◌, List, [], length, true, refl, sym, ap, ◌∙◌, subst, arith}
 use Rattle.std.specs.Prelude.{slice_index_or, replicate}
 use Rattle.std.proofs.lemmas.List.{get_or-replicate, length-replicate}
 use Rattle.std.proofs.lemmas.List.Folds.{sum_by-replicate}
 use Rattle.plat_base.specs.Machine.{Machine}
-use Rattle.plat_base.specs.GuestRun.{GuestRun, guest_start}
+use Rattle.plat_base.specs.GuestRun.{guest_start}
 use Rattle.plat_base.specs.Coarse.{Coarse, cut_at, coarse_start, is_live, time_of, guest_now}
 use Rattle.plat_base.specs.Verdicts.{policy_answer}
 use Rattle.plat_base.specs.declared.endings.Ended.{Ended}
 use Rattle.plat_guest.specs.GuestSeen.{GuestSeen, new_guest}
-use Rattle.plat_laws.specs.Sound.{IsMachine, Sound}
+use Rattle.plat_laws.specs.Sound.{IsWithinLimits, Sound}
 use Rattle.plat_laws.specs.Room.{room, IsRoomy}
 use Rattle.plat_laws.proofs.RoomLaws.{roomy_start}
 use Rattle.plat_laws.proofs.EndLaws.{is_live-below}
@@ -25,7 +25,7 @@ guest_now-start m q inside = rw (get_or-replicate m.nodes q (cut_at 0) (cut_at 0
 pub start_is : (m : Machine) (k : Chronicled) (ends : List Ended) → k.items ≡ [] → ends ≡ replicate m.nodes (cut_at 0) → state_of k ends ≡ coarse_start m
 start_is m k ends none cut = ap (λ is. record { history = is; ends = ends }) none ∙ ap (λ es. record { history = []; ends = es }) cut
 
-starts : (m : Machine) (k : Chronicled) (ends : List Ended) (guests : List GuestSeen) → IsMachine m → k.machine ≡ m → k.items ≡ []
+starts : (m : Machine) (k : Chronicled) (ends : List Ended) (guests : List GuestSeen) → IsWithinLimits m → k.machine ≡ m → k.items ≡ []
     → room m ≤ k.spare → ends ≡ replicate m.nodes (cut_at 0) → length guests ≡ m.nodes
     → ((q : ℕ) → q < m.nodes → slice_index_or guests q no_guest ≡ new_guest m q)
     → RunsOn (record { machine = m; items = k.items; spare = k.spare }) ends guests 0
@@ -44,7 +44,7 @@ starts m k ends guests machine same none spare cut count each = record {
   room = omega (arith, spare);
 }
 
-pub RunsOn-start : (m : Machine) (k : Chronicled) (ends : List Ended) (guests : List GuestSeen) → IsMachine m → k.machine ≡ m → k.items ≡ []
+pub RunsOn-start : (m : Machine) (k : Chronicled) (ends : List Ended) (guests : List GuestSeen) → IsWithinLimits m → k.machine ≡ m → k.items ≡ []
     → room m ≤ k.spare → ends ≡ replicate m.nodes (cut_at 0) → length guests ≡ m.nodes
     → ((q : ℕ) → q < m.nodes → slice_index_or guests q no_guest ≡ new_guest m q) → RunsOn k ends guests 0
 RunsOn-start m k ends guests machine same none spare cut count each =

@@ -1,8 +1,7 @@
 -- one turn of the engine is one turn of the coarse run
-use Rattle.std.proofs.Common.{◌≡◌, ◌≢◌, ℕ, ◌+◌, ◌*◌, ◌<◌, ◌≤◌, List, [], ◌∷◌, ◌++◌, length, Bool, true, false, refl, sym, ap, ◌∙◌, subst, inl, inr, arith, length-append}
-use Rattle.std.specs.Prelude.{Option, slice_set, slice_index_or, if◌then◌else◌}
+use Rattle.std.proofs.Common.{◌≡◌, ◌≢◌, ℕ, ◌+◌, ◌<◌, ◌≤◌, List, ◌++◌, length, Bool, true, false, refl, sym, ap, ◌∙◌, subst, inl, inr, arith, length-append}
+use Rattle.std.specs.Prelude.{slice_set, slice_index_or, if◌then◌else◌}
 use Rattle.std.proofs.lemmas.Bool.{cases_eq}
-use Rattle.std.proofs.lemmas.Bool.Decides.{nat_tests}
 use Rattle.std.proofs.lemmas.List.{get_or_default, length-set, get_or-set_same, get_or-set_other}
 use Rattle.plat_base.specs.Machine.{Machine}
 use Rattle.plat_base.specs.Alike.{same_end}
@@ -14,15 +13,15 @@ use Rattle.plat_base.specs.declared.endings.End.{End}
 use Rattle.plat_base.specs.declared.endings.End.TheVariants as end
 use Rattle.plat_base.specs.declared.endings.Ended.{Ended}
 use Rattle.plat_guest.specs.GuestSeen.{GuestSeen, wanted_by, stepped}
-use Rattle.plat_laws.specs.Sound.{IsMachine, Sound}
+use Rattle.plat_laws.specs.Sound.{IsWithinLimits, Sound}
 use Rattle.plat_laws.specs.Room.{room, IsRoomy}
 use Rattle.plat_laws.proofs.Limits.{nodes-most, budget-most}
-use Rattle.plat_laws.proofs.RunLaws.{made_in, turn-time, turn-ends, time_of-less, is_live-set_before, is_live-set_same, length-ends_set, ended_of-set_same, daemon-ends}
+use Rattle.plat_laws.proofs.RunLaws.{made_in, turn-time, turn-ends, time_of-less, is_live-set_before, is_live-set_same}
 use Rattle.plat_laws.proofs.TurnLaws.{turn_sound, with_made_sound}
 use Rattle.plat_laws.proofs.RoomLaws.{turn_roomy, turn_room, room-most, daemon-longer}
 use Rattle.plat_laws.proofs.EndLaws.{is_live-below}
 use Rattle.plat_coarse.specs.declared.acts.Acted.{Acted}
-use Rattle.plat_coarse.specs.Acted.{value_found, end_within, wants_more}
+use Rattle.plat_coarse.specs.Acted.{value_found, end_within}
 use Rattle.plat_coarse.specs.Advanced.{no_guest, guests_after}
 use Rattle.plat_coarse.specs.Chronicle.{Chronicled}
 use Rattle.plat_coarse.specs.CoarseSeen.{RunsOn}
@@ -215,7 +214,7 @@ module _ (k : Chronicled) (ends : List Ended) (guests : List GuestSeen) (t q : �
       let back = sym machine in
       let ends_is : ends_now ≡ turned.ends = ap (λ (s : Coarse). s.ends) state in
       record {
-        machine = subst (λ (m : Machine). IsMachine m) back runs.machine;
+        machine = subst (λ (m : Machine). IsWithinLimits m) back runs.machine;
         sound =
             subst (λ (m : Machine). Sound m (policy_answer m.policy) (state_of last ends_now)) back
             (subst (λ (s : Coarse). Sound k.machine answer s) (sym state) (turn_sound k.machine answer run_now q runs.machine runs.sound live));

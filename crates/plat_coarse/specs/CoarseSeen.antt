@@ -1,14 +1,13 @@
 -- a coarse run as its callers see it, and what the engine keeps of it
-use Rattle.std.specs.Prelude.{◌≡◌, ℕ, ◌+◌, ◌<◌, ◌≤◌, true, List, [], length, replicate, Option, Some, None, slice_index_or}
+use Rattle.std.specs.Prelude.{◌≡◌, ℕ, ◌+◌, ◌<◌, ◌≤◌, true, List, length, slice_index_or}
 use Rattle.plat_base.specs.Machine.{Machine}
-use Rattle.plat_base.specs.GuestRun.{GuestState}
 use Rattle.plat_base.specs.Coarse.{Coarse, is_live, time_of, guest_now}
 use Rattle.plat_base.specs.Verdicts.{policy_answer}
 use Rattle.plat_base.specs.declared.endings.End.{End}
 use Rattle.plat_base.specs.declared.endings.End.TheVariants as end
 use Rattle.plat_base.specs.declared.endings.Ended.{Ended}
 use Rattle.plat_guest.specs.GuestSeen.{GuestSeen}
-use Rattle.plat_laws.specs.Sound.{IsMachine, Sound}
+use Rattle.plat_laws.specs.Sound.{IsWithinLimits, Sound}
 use Rattle.plat_laws.specs.Room.{room, IsRoomy}
 use Rattle.plat_coarse.specs.Chronicle.{Chronicled}
 use Rattle.plat_coarse.specs.Advanced.{no_guest}
@@ -23,7 +22,7 @@ pub record CoarseSeen : Type 0 where
 
 -- what the engine keeps beside the history
 pub record RunsOn (chronicle : Chronicled) (ends : List Ended) (states_now : List GuestSeen) (ticks : ℕ) : Type 0 where
-  pub machine : IsMachine chronicle.machine
+  pub machine : IsWithinLimits chronicle.machine
   pub sound : Sound chronicle.machine (policy_answer chronicle.machine.policy) (state_of chronicle ends)
   pub roomy : IsRoomy chronicle.machine (state_of chronicle ends)
   pub time : ticks ≡ time_of ends

@@ -1,5 +1,5 @@
 -- what the engine keeps of each page, against the history
-use Rattle.std.specs.Prelude.{◌≡◌, ℕ, ◌<◌, List, length, Option, Some, None, slice_get, slice_index_or}
+use Rattle.std.specs.Prelude.{◌≡◌, ℕ, ◌<◌, List, length, None, slice_index_or}
 use Rattle.plat_base.specs.Directories.{dir_of, seq_of, last_of, empty_dir}
 use Rattle.plat_base.specs.declared.items.Item.{Item}
 use Rattle.plat_coarse.specs.declared.pages.PageState.{PageState}

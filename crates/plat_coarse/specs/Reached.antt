@@ -1,13 +1,12 @@
 -- an access as the engine keeps it during a turn
 use Rattle.std.specs.Prelude.{ℕ, Option, Some, None, if◌then◌else◌}
+use Rattle.plat_base.specs.Verdicts.{Answer}
 use Rattle.plat_base.specs.Machine.{Machine}
 use Rattle.plat_base.specs.GuestRun.{Reach}
 use Rattle.plat_base.specs.Coarse.{is_starved, decided}
-use Rattle.plat_base.specs.declared.frames.Dir.{Dir}
 use Rattle.plat_base.specs.declared.items.Cause.{Cause}
 use Rattle.plat_base.specs.declared.items.Item.{Item}
 use Rattle.plat_base.specs.declared.policies.Decision.{Decision}
-use Rattle.plat_base.specs.declared.policies.Verdict.{Verdict}
 use Rattle.plat_coarse.specs.declared.accesses.Reached.{Reached}
 use Rattle.std.specs.Prelude.{List}
 
@@ -15,6 +14,6 @@ abbrev pub reach_seen : Reached → Reach
 reach_seen r = record { kind = r.kind; space = r.space; addr = r.addr; page = r.page; word = r.word; operand = r.operand }
 
 -- the decision of a fault, or none where no frame is free for an empty page
-abbrev pub decided_if_fed : Machine → (Dir → Option ℕ → ℕ → Verdict) → List Item → (q page now : ℕ) → Cause → Option Decision
+abbrev pub decided_if_fed : Machine → Answer → List Item → (q page now : ℕ) → Cause → Option Decision
 decided_if_fed m answer items q page now cause =
     if is_starved m items q page then None else Some (decided m answer items q page now cause)

@@ -1,5 +1,5 @@
 -- the removals that the engine keeps, against the history
-use Rattle.std.specs.Prelude.{◌≡◌, ℕ, ◌+◌, ◌<◌, ◌==◌, nat_lt, ◌&&◌, ◌||◌, not, Bool, false, List, [], ◌∷◌, length, replicate, slice_index_or}
+use Rattle.std.specs.Prelude.{◌≡◌, ℕ, ◌<◌, ◌==◌, nat_lt, ◌&&◌, not, Bool, List, length, replicate, slice_index_or}
 use Rattle.std.specs.List.{list_any, enumerate_from}
 use Rattle.plat_base.specs.Coarse.{by_other}
 use Rattle.plat_base.specs.Held.{removes_all, removes_writes}

@@ -5,7 +5,7 @@ ghost use Rattle.plat_base.specs.Decide.{is_dir};
 ghost use Rattle.plat_base.specs.Directories.{dir_of};
 ghost use Rattle.plat_base.specs.Pages.{entry_at as entry_at_of};
 ghost use Rattle.plat_base.specs.Verdicts.{policy_answer};
-ghost use Rattle.plat_laws.specs.Sound.{IsMachine, Sound};
+ghost use Rattle.plat_laws.specs.Sound.{IsWithinLimits, Sound};
 ghost use Rattle.plat_coarse.specs.Acted.{value_found, IsReachable, made_through, end_within, wants_more};
 ghost use Rattle.plat_coarse.specs.Advanced.{no_guest, guests_after};
 ghost use Rattle.plat_guest.specs.GuestSeen.{wanted_by};
@@ -172,7 +172,7 @@ pub fn settle(ends: &mut Vec<Ended>, q: u32, end: End, budget: u32) -> End
 /// The daemon's pass after the turn of tick `now`, where that tick is a multiple of its period: each frozen page is thawed,
 /// in rising number.
 pub fn daemon(chronicle: &mut Chronicle, ends: &[Ended], now: u32)
-    requires machine { IsMachine chronicle.old.machine }
+    requires machine { IsWithinLimits chronicle.old.machine }
     requires sound { Sound chronicle.old.machine (policy_answer chronicle.old.machine.policy) (state_of chronicle.old ends.now) }
     requires spare { length (daemon_of chronicle.old.machine (policy_answer chronicle.old.machine.policy) now (state_of chronicle.old ends.now)).history ≤ length chronicle.old.items + chronicle.old.spare }
     requires few { length (daemon_of chronicle.old.machine (policy_answer chronicle.old.machine.policy) now (state_of chronicle.old ends.now)).history ≤ 2621440 }

@@ -5,6 +5,7 @@ use Rattle.std.specs.List.{fold, filter_map, cons_option, list_any, find, range_
 use Rattle.std.proofs.lemmas.List.{append-nil}
 use Rattle.std.proofs.lemmas.List.Sums.{fold-append}
 use Rattle.std.proofs.lemmas.Bool.Decides.{nat_tests}
+use Rattle.plat_base.specs.Verdicts.{Answer}
 use Rattle.plat_base.specs.Machine.{Machine}
 use Rattle.plat_base.specs.Pages.{entry_at, numbers}
 use Rattle.plat_base.specs.GuestRun.{GuestRun, Outcome, GoesOn, HasHalted, HasTrapped, want_of, guest_run}
@@ -16,10 +17,8 @@ use Rattle.plat_base.specs.Rules.{stands, has_made, same_outcome, wants_right, w
 use Rattle.plat_base.specs.declared.endings.End.{End}
 use Rattle.plat_base.specs.declared.endings.End.TheVariants as end
 use Rattle.plat_base.specs.declared.endings.Ended.{Ended}
-use Rattle.plat_base.specs.declared.frames.Dir.{Dir}
 use Rattle.plat_base.specs.declared.statuses.Rule.{Rule}
 use Rattle.plat_base.specs.declared.statuses.Bad.{Bad}
-use Rattle.plat_base.specs.declared.policies.Verdict.{Verdict}
 use Rattle.plat_base.specs.declared.guests.Want.{Want}
 use Rattle.plat_base.specs.declared.guests.Want.TheVariants as want
 use Rattle.plat_base.specs.declared.items.Item.{Item}
@@ -264,7 +263,7 @@ bad_or-bad_at n None a b = refl
 bad_or-bad_at n (Some r) a b = refl
 
 pub bad_after-append :
-    (m : Machine) (answer : Dir → Option ℕ → ℕ → Verdict) (before : List Item) (n : ℕ) (xs ys : List Item)
+    (m : Machine) (answer : Answer) (before : List Item) (n : ℕ) (xs ys : List Item)
     → bad_after m answer before n (xs ++ ys)
     ≡ bad_or (bad_after m answer before n xs) (bad_after m answer (before ++ xs) (n + length xs) ys)
 bad_after-append m answer before n [] ys = rw (append-nil, add-zero)
@@ -277,13 +276,13 @@ bad_after-append m answer before n (i ∷ xs) ys =
 
 -- items none of which is bad, behind items none of which is bad
 pub bad_after-more :
-    (m : Machine) (answer : Dir → Option ℕ → ℕ → Verdict) (before : List Item) (n : ℕ) (xs ys : List Item)
+    (m : Machine) (answer : Answer) (before : List Item) (n : ℕ) (xs ys : List Item)
     → bad_after m answer before n xs ≡ None → bad_after m answer (before ++ xs) (n + length xs) ys ≡ None
     → bad_after m answer before n (xs ++ ys) ≡ None
 bad_after-more m answer before n xs ys h k = rw (bad_after-append, h, k)
 
 pub bad_after-one :
-    (m : Machine) (answer : Dir → Option ℕ → ℕ → Verdict) (before : List Item) (n : ℕ) (i : Item)
+    (m : Machine) (answer : Answer) (before : List Item) (n : ℕ) (i : Item)
     → bad_rule m answer before i ≡ None → bad_after m answer before n (i ∷ []) ≡ None
 bad_after-one m answer before n i h = rw h
 
@@ -306,7 +305,7 @@ bad_ends-none m items ends c h =
 
 -- items none of which is bad and ends that are in order are good
 pub first_bad-none :
-    (m : Machine) (answer : Dir → Option ℕ → ℕ → Verdict) (items : List Item) (ends : List Ended)
+    (m : Machine) (answer : Answer) (items : List Item) (ends : List Ended)
     → bad_after m answer [] 0 items ≡ None → length ends ≡ m.nodes
     → ((q : ℕ) → q < m.nodes → is_in_order m items ends q ≡ true) → first_bad m answer items ends ≡ None
 unfolding first_bad

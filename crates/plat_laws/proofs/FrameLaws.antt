@@ -4,6 +4,7 @@ use Rattle.std.specs.Prelude.{◌==◌, is_none, unwrap_or, find}
 use Rattle.std.specs.Option.{option_map}
 use Rattle.std.specs.List.{filter_map, cons_option, fold, range_with_len}
 use Rattle.std.proofs.lemmas.Bool.{eqb-true, eq-eqb, and_parts, and_from, not-true, not-false, lt-ltb}
+use Rattle.plat_base.specs.Verdicts.{Answer}
 use Rattle.plat_base.specs.Machine.{Machine}
 use Rattle.plat_base.specs.Pages.{numbers, distance}
 use Rattle.plat_base.specs.Alike.{same_verdict, same_right}
@@ -14,13 +15,11 @@ use Rattle.plat_base.specs.Coarse.{is_used, frame_at, free_frame, nearest_in, ne
 use Rattle.plat_base.specs.Rules.{got_named, is_decided, is_fault_decision}
 use Rattle.plat_base.proofs.CopiesLemmas.{copy_on-module, same_frame-itself}
 use Rattle.plat_base.specs.declared.frames.Frame.{Frame}
-use Rattle.plat_base.specs.declared.frames.Dir.{Dir}
 use Rattle.plat_base.specs.declared.items.Cause.{Cause}
 use Rattle.plat_base.specs.declared.items.Cause.TheVariants as cause
 use Rattle.plat_base.specs.declared.items.Kind.{Kind}
 use Rattle.plat_base.specs.declared.items.Kind.TheVariants as kind
 use Rattle.plat_base.specs.declared.items.Item.{Item}
-use Rattle.plat_base.specs.declared.policies.Verdict.{Verdict}
 use Rattle.plat_base.specs.declared.policies.Verdict.TheVariants as verdict
 use Rattle.plat_base.specs.declared.policies.Decision.{Decision}
 use Rattle.plat_laws.proofs.NumberLaws.{find_numbers-none, find_numbers-some, list_any_numbers-true, filter_map_numbers-none, pigeon-holes}
@@ -171,7 +170,7 @@ taken_fits m items n false true l s = own_is_frame m items n (free_frame m items
 taken_fits m items n false false l s = refl
 
 -- the decision of a fault that does not starve may be asked for
-pub got_fits : (m : Machine) (answer : Dir → Option ℕ → ℕ → Verdict) (items : List Item) (n p now : ℕ) (c : Cause)
+pub got_fits : (m : Machine) (answer : Answer) (items : List Item) (n p now : ℕ) (c : Cause)
     → is_dir m (dir_of items p) ≡ true → n < m.nodes → is_starved m items n p ≡ false → c ≢ cause.Thaw
     → may_decide m answer (dir_of items p) (last_of items p) now n c (got_frame m answer items n p now c) ≡ true
 got_fits m answer items n p now cause.Read h l st t =
@@ -185,7 +184,7 @@ got_fits m answer items n p now cause.Write h l st t =
 got_fits m answer items n p now cause.Thaw h l st t = absurd (t refl)
 
 -- what is known of that decision
-pub fault_facts : (m : Machine) (answer : Dir → Option ℕ → ℕ → Verdict) (items : List Item) (n p now : ℕ) (c : Cause)
+pub fault_facts : (m : Machine) (answer : Answer) (items : List Item) (n p now : ℕ) (c : Cause)
     → is_dir m (dir_of items p) ≡ true → n < m.nodes → is_starved m items n p ≡ false → c ≢ cause.Thaw
     → DecideFacts m (dir_of items p) (got_frame m answer items n p now c) c (decided m answer items n p now c)
 fault_facts m answer items n p now c h l st t =
@@ -205,7 +204,7 @@ judged items n p now e c d may made h same =
     (same_right-itself (right_of c))
 
 -- the change of a fault is the decision that the judge makes
-pub fault_decided : (m : Machine) (answer : Dir → Option ℕ → ℕ → Verdict) (items : List Item) (n p now e : ℕ) (c : Cause)
+pub fault_decided : (m : Machine) (answer : Answer) (items : List Item) (n p now e : ℕ) (c : Cause)
     → is_dir m (dir_of items p) ≡ true → n < m.nodes → is_starved m items n p ≡ false → c ≢ cause.Thaw
     → is_fault_decision m answer items
     (change_by items n p now c (decided m answer items n p now c) (Some (grant_of e c (decided m answer items n p now c))))

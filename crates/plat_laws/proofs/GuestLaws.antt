@@ -12,7 +12,7 @@ use Rattle.plat_base.specs.GuestRun.{GuestRun, GuestState, Reach, Operation, Rea
 use Rattle.plat_base.specs.Done.{Done, Accessed, Switched, value_of, values_of, done_of, operations_of, is_done_access, are_done, reads_word}
 use Rattle.plat_base.specs.Held.{active}
 use Rattle.plat_base.specs.Rules.{next_operation}
-use Rattle.plat_laws.specs.Sound.{IsGuest, IsMachine}
+use Rattle.plat_laws.specs.Sound.{IsGuest, IsWithinLimits}
 use Rattle.plat_laws.proofs.Limits.{page_of-below, words-some}
 use Rattle.plat_base.specs.declared.items.Access.{Access}
 use Rattle.plat_base.specs.declared.items.Item.{Item}
@@ -543,10 +543,10 @@ IsReach-wanted m q s k sp a o h =
     }
 
 pub reach_of-page :
-    (m : Machine) (s : GuestState) (k : Kind) (sp a o e : ℕ) → IsMachine m → IsReach m s k sp a o e → (reach_of m k sp a o).page < m.pages
+    (m : Machine) (s : GuestState) (k : Kind) (sp a o e : ℕ) → IsWithinLimits m → IsReach m s k sp a o e → (reach_of m k sp a o).page < m.pages
 reach_of-page m s k sp a o e h r = rw r.page (page_of-below m e h r.below)
 
-pub reach_of-word : (m : Machine) (k : Kind) (sp a o : ℕ) → IsMachine m → (reach_of m k sp a o).word < m.words
+pub reach_of-word : (m : Machine) (k : Kind) (sp a o : ℕ) → IsWithinLimits m → (reach_of m k sp a o).word < m.words
 reach_of-word m k sp a o h = omega (arith, words-some m h)
 
 -- ---- the space that a switch wants

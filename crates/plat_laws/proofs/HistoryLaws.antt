@@ -1,23 +1,20 @@
 -- a good history is one history of flat memory
-use Rattle.std.specs.Prelude.{◌≡◌, ℕ, ◌+◌, ◌<◌, ◌==◌, nat_lt, ◌&&◌, ◌||◌, not, if◌then◌else◌, Bool, true, false, List, [], ◌∷◌, ◌++◌, length, Option, Some, None, is_none, IsTrue, find}
-use Rattle.std.proofs.Common.{refl, ap, sym, ◌∙◌, inl, inr, append_assoc, arith}
-use Rattle.std.specs.List.{list_any}
-use Rattle.std.proofs.lemmas.Bool.{and_parts, not-true, true≢false, lt-ltb}
+use Rattle.std.specs.Prelude.{◌≡◌, ℕ, ◌+◌, ◌<◌, ◌==◌, nat_lt, ◌&&◌, ◌||◌, not, if◌then◌else◌, Bool, true, false, List, [], ◌∷◌, ◌++◌, length, Option, Some, None, is_none, find}
+use Rattle.std.proofs.Common.{refl, ap, sym, ◌∙◌, inl, inr, arith}
+use Rattle.std.proofs.lemmas.Bool.{and_parts, not-true, true≢false}
+use Rattle.plat_base.specs.Verdicts.{Answer}
 use Rattle.plat_base.specs.Machine.{Machine}
 use Rattle.plat_base.specs.Pages.{numbers}
 use Rattle.plat_base.specs.Flat.{is_write}
 use Rattle.plat_base.specs.Held.{held, has_right, later, is_later_change, removes_all, removes_writes}
 use Rattle.plat_base.specs.Rules.{entry_of_access, is_grant_of, is_granted, is_legal, is_ordered_access, is_in_order, unless, first_rule, bad_rule, bad_at, bad_after, bad_ends, bad_or, are_ends, first_bad, Good}
 use Rattle.plat_base.specs.Histories.{IsLegalMemory, IsProgramOrder, TookAway, UsesNothingRemoved, IsOneHistory}
-use Rattle.plat_base.specs.declared.frames.Dir.{Dir}
-use Rattle.plat_base.specs.declared.policies.Verdict.{Verdict}
 use Rattle.plat_base.specs.declared.endings.Ended.{Ended}
 use Rattle.plat_base.specs.declared.items.Access.{Access}
 use Rattle.plat_base.specs.declared.items.Change.{Change}
 use Rattle.plat_base.specs.declared.items.Item.{Item}
 use Rattle.plat_base.specs.declared.items.Item.TheVariants as item
 use Rattle.plat_base.specs.declared.items.Removed.{Removed}
-use Rattle.plat_base.specs.declared.items.Removed.TheVariants as removed
 use Rattle.plat_base.specs.declared.statuses.Rule.{Rule}
 use Rattle.plat_base.specs.declared.statuses.Rule.TheVariants as rule
 use Rattle.plat_base.specs.declared.statuses.Bad.{Bad}
@@ -34,7 +31,7 @@ none_here : (n : ℕ) (r : Option Rule) (rest : Option Bad) → bad_at n r rest 
 none_here n None rest h = refl
 none_here n (Some r) rest h = absurd cc
 
-module _ (m : Machine) (answer : Dir → Option ℕ → ℕ → Verdict) (items : List Item) (ends : List Ended) (good : Good m answer items ends) where
+module _ (m : Machine) (answer : Answer) (items : List Item) (ends : List Ended) (good : Good m answer items ends) where
   parts : (bad_after m answer [] 0 items ≡ None) × (bad_ends m items ends ≡ None)
   unfolding first_bad
   parts = both_none (bad_after m answer [] 0 items) (bad_ends m items ends) good
@@ -56,7 +53,7 @@ first_none : (a b : Option Rule) → first_rule a b ≡ None → (a ≡ None) ×
 first_none None b h = (refl, h)
 first_none (Some r) b h = absurd cc
 
-module _ (m : Machine) (answer : Dir → Option ℕ → ℕ → Verdict) (before : List Item) (a : Access) (kept : bad_rule m answer before (item.Access a) ≡ None) where
+module _ (m : Machine) (answer : Answer) (before : List Item) (a : Access) (kept : bad_rule m answer before (item.Access a) ≡ None) where
   access_parts : (is_ordered_access m before a ≡ true) × (is_granted m before a ≡ true) × (is_legal m before a ≡ true)
   access_parts =
       let all = first_none (unless (is_ordered_access m before a) rule.Order) (first_rule (unless (is_granted m before a) rule.Grant) (unless (is_legal m before a) rule.Legal)) kept
@@ -94,7 +91,7 @@ abbrev none_where : Bad → Bool → Option Bad
 none_where bad ok = if ok then None else Some bad
 
 -- a good history is one legal history of flat memory
-pub one_history : (m : Machine) (answer : Dir → Option ℕ → ℕ → Verdict) (items : List Item) (ends : List Ended) → Good m answer items ends → IsOneHistory m items ends
+pub one_history : (m : Machine) (answer : Answer) (items : List Item) (ends : List Ended) → Good m answer items ends → IsOneHistory m items ends
 one_history m answer items ends good = record {
   legal = legal;
   in_order = in_order;

@@ -8,6 +8,7 @@ use Rattle.std.proofs.lemmas.Grind.{fold-append}
 use Rattle.std.proofs.lemmas.List.{append_assoc, append-nil}
 use Rattle.std.proofs.lemmas.List.Folds.{list_any-append}
 use Rattle.std.proofs.lemmas.List.Elements.{filter_map-append}
+use Rattle.plat_base.specs.Verdicts.{Answer}
 use Rattle.plat_base.specs.Machine.{Machine}
 use Rattle.plat_base.specs.Pages.{entry_at, page_of, program_of, initial_value}
 use Rattle.plat_base.specs.Flat.{writes_word, written, flat_value, flat_writes}
@@ -17,7 +18,6 @@ use Rattle.plat_base.specs.Done.{value_of, values_of, Done, Switched, done_of, o
 use Rattle.plat_base.specs.GuestRun.{guest_run, want_of, GoesOn, HasHalted, HasTrapped}
 use Rattle.plat_base.specs.Coarse.{is_owed_for, by_other, ended_of}
 use Rattle.plat_base.specs.Rules.{wants_right, wants_operation, stands, is_end, is_in_order, bad_rule, bad_at, bad_or, bad_after}
-use Rattle.plat_base.specs.declared.frames.Dir.{Dir}
 use Rattle.plat_base.specs.declared.items.Removed.{Removed}
 use Rattle.plat_base.specs.declared.items.Translation.{Translation}
 use Rattle.plat_base.specs.declared.items.Access.{Access}
@@ -29,7 +29,6 @@ use Rattle.plat_base.specs.declared.endings.End.{End}
 use Rattle.plat_base.specs.declared.endings.End.TheVariants as end
 use Rattle.plat_base.specs.declared.endings.Ended.{Ended}
 use Rattle.plat_base.specs.declared.guests.Want.{Want}
-use Rattle.plat_base.specs.declared.policies.Verdict.{Verdict}
 use Rattle.plat_base.specs.declared.statuses.Rule.{Rule}
 use Rattle.plat_base.specs.declared.statuses.Bad.{Bad}
 use Rattle.plat_base.specs.declared.guests.Want.TheVariants as want
@@ -491,7 +490,7 @@ is_in_order-not_mine m xs ys before after q h e =
 
 -- ---- the rules of an append
 
-pub bad_after-append : (m : Machine) (answer : Dir → Option ℕ → ℕ → Verdict) (before : List Item) (n : ℕ) (xs ys : List Item) → bad_after m answer before n (xs ++ ys) ≡ bad_or (bad_after m answer before n xs) (bad_after m answer (before ++ xs) (n + length xs) ys)
+pub bad_after-append : (m : Machine) (answer : Answer) (before : List Item) (n : ℕ) (xs ys : List Item) → bad_after m answer before n (xs ++ ys) ≡ bad_or (bad_after m answer before n xs) (bad_after m answer (before ++ xs) (n + length xs) ys)
 bad_after-append m answer before n [] ys =
     let k : n ≡ n + 0 = omega arith
     in rw append-nil (ap (λ i. bad_after m answer before i ys) k)

@@ -8,7 +8,7 @@ use Rattle.plat_base.specs.Machine.{Machine, Program, limits, is_within, is_page
 use Rattle.plat_base.specs.Pages.{page_of, space_of, no_entry, program_of, no_program}
 use Rattle.plat_base.specs.declared.guests.Instr.{Instr}
 use Rattle.plat_base.specs.declared.policies.PolicyKind.TheVariants as policy
-use Rattle.plat_laws.specs.Sound.{IsMachine}
+use Rattle.plat_laws.specs.Sound.{IsWithinLimits}
 
 -- ---- a test of each element, at one of them
 
@@ -25,7 +25,7 @@ list_all-get_or p [] i d h l = absurd (omega arith)
 list_all-get_or p (x ∷ xs) zero d h l = and-left (p x) (list_all p xs) h
 list_all-get_or p (x ∷ xs) (suc i) d h l = list_all-get_or p xs i d (and-right (p x) (list_all p xs) h) (omega arith)
 
-limit_at : (m : Machine) (i : ℕ) → IsMachine m → i < 15 → get_or (limits m) i true ≡ true
+limit_at : (m : Machine) (i : ℕ) → IsWithinLimits m → i < 15 → get_or (limits m) i true ≡ true
 limit_at m i h l = list_all-get_or (λ b. b) (limits m) i true h l
 
 is_within-low : (low high n : ℕ) → is_within low high n ≡ true → low ≤ n
@@ -36,10 +36,10 @@ is_within-high low high n h = grind (arith, nat_tests)
 
 -- ---- numbers
 
-pub nodes-most : (m : Machine) → IsMachine m → m.nodes ≤ 8
+pub nodes-most : (m : Machine) → IsWithinLimits m → m.nodes ≤ 8
 nodes-most m h = is_within-high 1 8 m.nodes (limit_at m 0 h (omega arith))
 
-pub frames-most : (m : Machine) → IsMachine m → m.frames ≤ 64
+pub frames-most : (m : Machine) → IsWithinLimits m → m.frames ≤ 64
 frames-most m h = is_within-high 1 64 m.frames (limit_at m 1 h (omega arith))
 
 is_page_size-some : (n : ℕ) → is_page_size n ≡ true → 0 < n
@@ -48,19 +48,19 @@ is_page_size-some n h = grind (arith, nat_tests)
 is_page_size-most : (n : ℕ) → is_page_size n ≡ true → n ≤ 64
 is_page_size-most n h = grind (arith, nat_tests)
 
-pub words-some : (m : Machine) → IsMachine m → 0 < m.words
+pub words-some : (m : Machine) → IsWithinLimits m → 0 < m.words
 words-some m h = is_page_size-some m.words (limit_at m 2 h (omega arith))
 
-pub pages-most : (m : Machine) → IsMachine m → m.pages ≤ 64
+pub pages-most : (m : Machine) → IsWithinLimits m → m.pages ≤ 64
 pages-most m h = is_within-high 1 64 m.pages (limit_at m 3 h (omega arith))
 
-pub budget-some : (m : Machine) → IsMachine m → 1 ≤ m.budget
+pub budget-some : (m : Machine) → IsWithinLimits m → 1 ≤ m.budget
 budget-some m h = is_within-low 1 65536 m.budget (limit_at m 5 h (omega arith))
 
-pub budget-most : (m : Machine) → IsMachine m → m.budget ≤ 65536
+pub budget-most : (m : Machine) → IsWithinLimits m → m.budget ≤ 65536
 budget-most m h = is_within-high 1 65536 m.budget (limit_at m 5 h (omega arith))
 
-pub guests-count : (m : Machine) → IsMachine m → length m.guests ≡ m.nodes
+pub guests-count : (m : Machine) → IsWithinLimits m → length m.guests ≡ m.nodes
 guests-count m h = let e = limit_at m 13 h (omega arith) in grind (arith, nat_tests)
 
 -- ---- the policy
@@ -70,21 +70,21 @@ is_policy-platinum t1 t2 h = grind (arith, nat_tests)
 
 -- the window, and the daemon's period from below and above
 pub platinum-limits :
-    (m : Machine) (t1 t2 : ℕ) → IsMachine m → m.policy ≡ policy.Platinum t1 t2 → (t1 ≤ 1000000) × (64 ≤ t2) × (t2 ≤ 1000000)
+    (m : Machine) (t1 t2 : ℕ) → IsWithinLimits m → m.policy ≡ policy.Platinum t1 t2 → (t1 ≤ 1000000) × (64 ≤ t2) × (t2 ≤ 1000000)
 platinum-limits m t1 t2 h e = is_policy-platinum t1 t2 (rw e at (limit_at m 4 h (omega arith)))
 
 -- ---- entries
 
 pub entry-limits :
-    (m : Machine) (e : ℕ) → IsMachine m → e < length m.entries
+    (m : Machine) (e : ℕ) → IsWithinLimits m → e < length m.entries
     → (space_of m e ≤ 7) × ((get_or m.entries e no_entry).vpage ≤ 63) × (page_of m e < m.pages)
 entry-limits m e h l =
     let t = list_all-get_or (is_entry m.pages) m.entries e no_entry (limit_at m 9 h (omega arith)) l in grind (arith, nat_tests)
 
-pub page_of-below : (m : Machine) (e : ℕ) → IsMachine m → e < length m.entries → page_of m e < m.pages
+pub page_of-below : (m : Machine) (e : ℕ) → IsWithinLimits m → e < length m.entries → page_of m e < m.pages
 page_of-below m e h l = (entry-limits m e h l).2
 
-pub space_of-most : (m : Machine) (e : ℕ) → IsMachine m → e < length m.entries → space_of m e ≤ 7
+pub space_of-most : (m : Machine) (e : ℕ) → IsWithinLimits m → e < length m.entries → space_of m e ≤ 7
 space_of-most m e h l = (entry-limits m e h l).0
 
 -- ---- programs
@@ -96,7 +96,7 @@ list_all-get_or_any p [] i d k h = k
 list_all-get_or_any p (x ∷ xs) zero d k h = and-left (p x) (list_all p xs) h
 list_all-get_or_any p (x ∷ xs) (suc i) d k h = list_all-get_or_any p xs i d k (and-right (p x) (list_all p xs) h)
 
-pub program-limits : (m : Machine) (q : ℕ) → IsMachine m → is_program (program_of m q) ≡ true
+pub program-limits : (m : Machine) (q : ℕ) → IsWithinLimits m → is_program (program_of m q) ≡ true
 program-limits m q h = list_all-get_or_any is_program m.guests q no_program refl (limit_at m 14 h (omega arith))
 
 program-parts :
@@ -112,7 +112,7 @@ slice_get-is_instr labels code i x h e =
 
 -- an instruction of guest q is within the limits of an instruction
 pub instr-limits :
-    (m : Machine) (q at : ℕ) (x : Instr) → IsMachine m → slice_get (program_of m q).code at ≡ Some x
+    (m : Machine) (q at : ℕ) (x : Instr) → IsWithinLimits m → slice_get (program_of m q).code at ≡ Some x
     → is_instr (length (program_of m q).labels) x ≡ true
 instr-limits m q at x h e =
     let p = program_of m q

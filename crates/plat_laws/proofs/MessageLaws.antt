@@ -10,6 +10,7 @@ use Rattle.std.proofs.lemmas.List.Elements.{All-nil, All-cons, All-append}
 use Rattle.std.proofs.lemmas.List.Folds.{list_any_none, list_any-append}
 use Rattle.std.proofs.lemmas.List.Sums.{list_all-from_AllPass}
 use Rattle.std.proofs.lemmas.List.{append_assoc}
+use Rattle.plat_base.specs.Verdicts.{Answer}
 use Rattle.plat_base.specs.Machine.{Machine}
 use Rattle.plat_base.specs.Pages.{page_of, space_of, entries_of_space}
 use Rattle.plat_base.specs.Directories.{dir_of, seq_of, last_after, last_of}
@@ -31,8 +32,6 @@ use Rattle.plat_base.specs.declared.items.Change.{Change}
 use Rattle.plat_base.specs.declared.items.Switch.{Switch}
 use Rattle.plat_base.specs.declared.items.Item.{Item}
 use Rattle.plat_base.specs.declared.items.Item.TheVariants as item
-use Rattle.plat_base.specs.declared.frames.Dir.{Dir}
-use Rattle.plat_base.specs.declared.policies.Verdict.{Verdict}
 use Rattle.plat_base.specs.declared.statuses.Rule.TheVariants as rule
 
 -- the translation of this processor and entry gets a message by interrupt before the change
@@ -153,13 +152,13 @@ answered-past : (m : Machine) (xs ys : List Item) (x : Applied) → all_applied 
 answered-past m xs ys x h k = rw (active-applied m xs ys x.actor h, k) refl
 
 -- an answered message is followed by what follows it
-bad_after-answered : (m : Machine) (answer : Dir → Option ℕ → ℕ → Verdict) (xs : List Item) (i : ℕ) (x : Applied) (ys : List Item) → is_answered m xs x ≡ true → bad_after m answer (xs ++ item.Applied x ∷ []) (i + 1) ys ≡ None → bad_after m answer xs i (item.Applied x ∷ ys) ≡ None
+bad_after-answered : (m : Machine) (answer : Answer) (xs : List Item) (i : ℕ) (x : Applied) (ys : List Item) → is_answered m xs x ≡ true → bad_after m answer (xs ++ item.Applied x ∷ []) (i + 1) ys ≡ None → bad_after m answer xs i (item.Applied x ∷ ys) ≡ None
 bad_after-answered m answer xs i x ys h k = ap (λ b. bad_at i (unless b rule.Held) (bad_after m answer (xs ++ item.Applied x ∷ []) (i + 1) ys)) h ∙ k
 
 row-applied : (rem : Removed) (test : ℕ → Bool) (e a n : ℕ) → all_applied (row rem test e a n) ≡ true
 row-applied rem test e a n = list_all-from_AllPass is_applied (row rem test e a n) (row-All (λ i. is_applied i ≡ true) rem test e a n (λ r l u k. refl))
 
-row-answered : (m : Machine) (answer : Dir → Option ℕ → ℕ → Verdict) (xs : List Item) (i : ℕ) (rem : Removed) (test : ℕ → Bool) (e a n : ℕ) → ((r : ℕ) → a ≤ r → r < a + n → test r ≡ true → is_answered m xs (applied_of rem e r) ≡ true) → bad_after m answer xs i (row rem test e a n) ≡ None
+row-answered : (m : Machine) (answer : Answer) (xs : List Item) (i : ℕ) (rem : Removed) (test : ℕ → Bool) (e a n : ℕ) → ((r : ℕ) → a ≤ r → r < a + n → test r ≡ true → is_answered m xs (applied_of rem e r) ≡ true) → bad_after m answer xs i (row rem test e a n) ≡ None
 unfolding row applied_of
 row-answered m answer xs i rem test e a zero h = refl
 row-answered m answer xs i rem test e a (suc n) h =
@@ -173,7 +172,7 @@ row-answered m answer xs i rem test e a (suc n) h =
     ∙ h r (omega arith) (omega arith) w)))
     (λ k. row-answered m answer xs i rem test e (a + 1) n (λ r l u w. h r (omega arith) (omega arith) w))
 
-block-answered : (m : Machine) (answer : Dir → Option ℕ → ℕ → Verdict) (xs : List Item) (i : ℕ) (rem : Removed) (here : ℕ → Bool) (test : ℕ → ℕ → Bool) (nodes b n : ℕ) → ((r e : ℕ) → b ≤ e → e < b + n → here e ≡ true → r < nodes → test e r ≡ true → is_answered m xs (applied_of rem e r) ≡ true) → bad_after m answer xs i (block rem here test nodes b n) ≡ None
+block-answered : (m : Machine) (answer : Answer) (xs : List Item) (i : ℕ) (rem : Removed) (here : ℕ → Bool) (test : ℕ → ℕ → Bool) (nodes b n : ℕ) → ((r e : ℕ) → b ≤ e → e < b + n → here e ≡ true → r < nodes → test e r ≡ true → is_answered m xs (applied_of rem e r) ≡ true) → bad_after m answer xs i (block rem here test nodes b n) ≡ None
 unfolding block applied_of
 block-answered m answer xs i rem here test nodes b zero h = refl
 block-answered m answer xs i rem here test nodes b (suc n) h =
@@ -209,7 +208,7 @@ is_target-parts m s initiator e r h =
     }
 
 -- each message finds its translation, if it does so in the state before the turn
-pub bad_after-interrupts : (m : Machine) (answer : Dir → Option ℕ → ℕ → Verdict) (s : Coarse) (initiator page : ℕ) (rem : Removed) (n : ℕ) → ((r e : ℕ) → r < m.nodes → e < length m.entries → hit m s initiator page rem r e ≡ true → may_apply (message_of rem) (held m s.history r e) ≡ true) → bad_after m answer s.history n (interrupts m s initiator page rem) ≡ None
+pub bad_after-interrupts : (m : Machine) (answer : Answer) (s : Coarse) (initiator page : ℕ) (rem : Removed) (n : ℕ) → ((r e : ℕ) → r < m.nodes → e < length m.entries → hit m s initiator page rem r e ≡ true → may_apply (message_of rem) (held m s.history r e) ≡ true) → bad_after m answer s.history n (interrupts m s initiator page rem) ≡ None
 unfolding applied_of
 bad_after-interrupts m answer s initiator page rem n h = rw (interrupts-block m s initiator page rem) (by (removes_some rem) refl)
   where
@@ -407,7 +406,7 @@ waiting-All P q owes here b (suc n) h =
 activated : (q e : ℕ) → Message → Applied
 activated q e msg = record { actor = q; entry = e; message = msg; moment = moment.Activation }
 
-waiting-answered : (m : Machine) (answer : Dir → Option ℕ → ℕ → Verdict) (xs : List Item) (i q : ℕ) (owes : ℕ → Option Message) (here : ℕ → Bool) (b n : ℕ) → ((e : ℕ) (msg : Message) → b ≤ e → e < b + n → here e ≡ true → owes e ≡ Some msg → is_answered m xs (activated q e msg) ≡ true) → bad_after m answer xs i (waiting q owes here b n) ≡ None
+waiting-answered : (m : Machine) (answer : Answer) (xs : List Item) (i q : ℕ) (owes : ℕ → Option Message) (here : ℕ → Bool) (b n : ℕ) → ((e : ℕ) (msg : Message) → b ≤ e → e < b + n → here e ≡ true → owes e ≡ Some msg → is_answered m xs (activated q e msg) ≡ true) → bad_after m answer xs i (waiting q owes here b n) ≡ None
 unfolding waiting activated
 waiting-answered m answer xs i q owes here b zero h = refl
 waiting-answered m answer xs i q owes here b (suc n) h =
@@ -491,7 +490,7 @@ active-switch_items m xs q space r =
     turned = grind (arith, nat_tests)
 
 -- each message behind the switch finds its translation
-pub bad_after-activations : (m : Machine) (answer : Dir → Option ℕ → ℕ → Verdict) (xs : List Item) (q space n : ℕ) → q < m.nodes → bad_after m answer (xs ++ item.Switch (switch_of q space) ∷ []) n (activations m xs q space) ≡ None
+pub bad_after-activations : (m : Machine) (answer : Answer) (xs : List Item) (q space n : ℕ) → q < m.nodes → bad_after m answer (xs ++ item.Switch (switch_of q space) ∷ []) n (activations m xs q space) ≡ None
 unfolding activated
 bad_after-activations m answer xs q space n h =
     let s = switch_of q space
@@ -500,7 +499,7 @@ bad_after-activations m answer xs q space n h =
     rw (lt-ltb q m.nodes h, lt-ltb e (length m.entries) (omega arith), active-switch_own m xs s, held-switch m xs s q e)
     (rw (eq-eqb space (space_of m e) (sym (eqb-true (space_of m e) space o))) (owed-may_apply m xs q e msg w))))
 
-pub bad_after-switch_items : (m : Machine) (answer : Dir → Option ℕ → ℕ → Verdict) (xs : List Item) (q space n : ℕ) → is_ordered_switch m xs (switch_of q space) ≡ true → bad_after m answer xs n (switch_items m xs q space) ≡ None
+pub bad_after-switch_items : (m : Machine) (answer : Answer) (xs : List Item) (q space n : ℕ) → is_ordered_switch m xs (switch_of q space) ≡ true → bad_after m answer xs n (switch_items m xs q space) ≡ None
 bad_after-switch_items m answer xs q space n h =
     let s = switch_of q space
     in let node = and_parts (nat_lt q m.nodes) (is_switch_next (next_operation m xs q) space) h

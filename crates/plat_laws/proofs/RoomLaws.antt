@@ -9,6 +9,7 @@ use Rattle.std.proofs.Math.Nat.{div-mul-le_self, div-le_of_le-mul, mul-le-mul_le
 use Rattle.std.proofs.lemmas.Nat.{le-div, div-mul-add, mod-mul-add, mod_below, mul-le, div-add-mod'}
 use Rattle.std.proofs.lemmas.List.FromFn.{length-range_with_len}
 use Rattle.std.proofs.lemmas.List.Sums.{sum_by-append, sum_by-cons}
+use Rattle.plat_base.specs.Verdicts.{Answer}
 use Rattle.plat_base.specs.Machine.{Machine}
 use Rattle.plat_base.specs.Pages.{numbers, entry_at, page_of, space_of}
 use Rattle.plat_base.specs.GuestRun.{want_of, Reach, reach_of}
@@ -18,8 +19,6 @@ use Rattle.plat_base.specs.Coarse.{Coarse, coarse_start, is_live, time_of, made,
 use Rattle.plat_base.specs.Held.{told, kept_of, granted_to, held, active, has_right}
 use Rattle.plat_base.specs.Schedule.{scheduled, coarse_run}
 use Rattle.plat_base.specs.Rules.{may_apply, is_answered, unless, bad_rule, bad_at, bad_after}
-use Rattle.plat_base.specs.declared.frames.Dir.{Dir}
-use Rattle.plat_base.specs.declared.policies.Verdict.{Verdict}
 use Rattle.plat_base.specs.declared.policies.Decision.{Decision}
 use Rattle.plat_base.specs.declared.policies.PolicyKind.{PolicyKind}
 use Rattle.plat_base.specs.declared.policies.PolicyKind.TheVariants as policy
@@ -42,7 +41,7 @@ use Rattle.plat_base.specs.declared.items.Applied.{Applied}
 use Rattle.plat_base.specs.declared.items.Switch.{Switch}
 use Rattle.plat_base.specs.declared.items.Item.{Item}
 use Rattle.plat_base.specs.declared.items.Item.TheVariants as item
-use Rattle.plat_laws.specs.Sound.{IsMachine, Sound}
+use Rattle.plat_laws.specs.Sound.{IsWithinLimits, Sound}
 use Rattle.plat_laws.specs.Room.{passes, room_at, room, charge_of, charge, charges, IsRoomy}
 use Rattle.plat_laws.specs.Live.{AreLive}
 use Rattle.plat_laws.proofs.Limits.{nodes-most, pages-most, budget-most, platinum-limits}
@@ -219,7 +218,7 @@ unless_ok true r h = refl
 unless_ok false r h = absurd cc
 
 -- an item that breaks no rule is charged for itself and for the weight that it adds
-weighed : (m : Machine) (answer : Dir → Option ℕ → ℕ → Verdict) (xs : List Item) (i : Item) → bad_rule m answer xs i ≡ None → 1 + weight m (xs ++ i ∷ []) ≤ weight m xs + charge i
+weighed : (m : Machine) (answer : Answer) (xs : List Item) (i : Item) → bad_rule m answer xs i ≡ None → 1 + weight m (xs ++ i ∷ []) ≤ weight m xs + charge i
 weighed m answer xs (item.Access a) h = omega (arith, weight-access m xs a)
 weighed m answer xs (item.Change c) h = weight-change m xs c
 weighed m answer xs (item.Applied x) h = omega (arith, weight-applied m xs x (unless_ok (is_answered m xs x) rule.Held h))
@@ -232,7 +231,7 @@ good_first n None later h = (refl, h)
 good_first n (Some r) later h = absurd cc
 
 -- items that break no rule are as many as they are charged for, but for the weight that they leave
-all_weighed : (m : Machine) (answer : Dir → Option ℕ → ℕ → Verdict) (before : List Item) (n : ℕ) (xs : List Item) → bad_after m answer before n xs ≡ None → length xs + weight m (before ++ xs) ≤ weight m before + charges xs
+all_weighed : (m : Machine) (answer : Answer) (before : List Item) (n : ℕ) (xs : List Item) → bad_after m answer before n xs ≡ None → length xs + weight m (before ++ xs) ≤ weight m before + charges xs
 all_weighed m answer before n [] h = rw append-nil (omega arith)
 all_weighed m answer before n (i ∷ is) h =
     let parts = good_first n (bad_rule m answer before i) (bad_after m answer (before ++ i ∷ []) (n + 1) is) h
@@ -245,7 +244,7 @@ unfolding weight weight_row weight_of
 weight-start m = sum-none (weight_row m []) 0 m.nodes (λ q. sum-none (λ e. weight_of (held m [] q e)) 0 (length m.entries) (λ e. refl))
 
 -- a history that breaks no rule is no longer than it is charged for
-pub length-charges : (m : Machine) (answer : Dir → Option ℕ → ℕ → Verdict) (items : List Item) → bad_after m answer [] 0 items ≡ None → length items ≤ charges items
+pub length-charges : (m : Machine) (answer : Answer) (items : List Item) → bad_after m answer [] 0 items ≡ None → length items ≤ charges items
 length-charges m answer items h = omega (arith, all_weighed m answer [] 0 items h, weight-start m)
 
 -- ---- what a turn is charged
@@ -260,7 +259,7 @@ charges-applied (item.Change c ∷ xs) h = absurd cc
 charges-applied (item.Applied x ∷ xs) h = omega (arith, sum_by-cons charge (item.Applied x) xs, charges-applied xs h)
 charges-applied (item.Switch s ∷ xs) h = absurd cc
 
-module _ (m : Machine) (answer : Dir → Option ℕ → ℕ → Verdict) (s : Coarse) where
+module _ (m : Machine) (answer : Answer) (s : Coarse) where
   fault-charges : (q now entry : ℕ) (r : Reach) (d : Decision) → charges (fault_items m s q now entry r d) ≤ 4
   fault-charges q now entry r d =
       let messages = interrupts m s q r.page d.removed
@@ -315,7 +314,7 @@ module _ (m : Machine) (answer : Dir → Option ℕ → ℕ → Verdict) (s : Co
       by true = omega (arith, charges-append s.history (thaw_items m answer s now p), thaw_items-charges now p)
       by false = omega arith
 
-thaws-charges : (m : Machine) (answer : Dir → Option ℕ → ℕ → Verdict) (s : Coarse) (now : ℕ) (ps : List ℕ) → charges (fold (thaw m answer now) s ps).history ≤ charges s.history + length ps
+thaws-charges : (m : Machine) (answer : Answer) (s : Coarse) (now : ℕ) (ps : List ℕ) → charges (fold (thaw m answer now) s ps).history ≤ charges s.history + length ps
 thaws-charges m answer s now [] = omega arith
 thaws-charges m answer s now (p ∷ ps) =
     omega (arith, thaw-charges m answer s now p, thaws-charges m answer (thaw m answer now s p) now ps)
@@ -324,7 +323,7 @@ thaws-charges m answer s now (p ∷ ps) =
 passes_at : PolicyKind → ℕ → ℕ
 passes_at p now = if is_pass p now then 1 else 0
 
-daemon-charges : (m : Machine) (answer : Dir → Option ℕ → ℕ → Verdict) (s : Coarse) (now : ℕ) → charges (daemon m answer now s).history ≤ charges s.history + m.pages * passes_at m.policy now
+daemon-charges : (m : Machine) (answer : Answer) (s : Coarse) (now : ℕ) → charges (daemon m answer now s).history ≤ charges s.history + m.pages * passes_at m.policy now
 unfolding passes_at
 daemon-charges m answer s now = by (is_pass m.policy now)
   where
@@ -355,7 +354,7 @@ div-next t n h = ⊎_elim inside full (cases_lt (n % t + 1) t)
 div-mono : (t a b : ℕ) → 0 < t → a ≤ b → a / t ≤ b / t
 div-mono t a b h l = le-div (a / t) b t h (omega (arith, div-mul-le_self a t))
 
-module _ (m : Machine) (machine : IsMachine m) where
+module _ (m : Machine) (machine : IsWithinLimits m) where
   period : (t1 t2 : ℕ) → m.policy ≡ policy.Platinum t1 t2 → 0 < t2
   period t1 t2 e = omega (arith, (platinum-limits m t1 t2 machine e).1)
 
@@ -406,7 +405,7 @@ module _ (m : Machine) (machine : IsMachine m) where
 pub roomy_start : (m : Machine) → IsRoomy m (coarse_start m)
 roomy_start m = omega arith
 
-pub turn_roomy : (m : Machine) (answer : Dir → Option ℕ → ℕ → Verdict) (s : Coarse) (q : ℕ) → IsMachine m → IsRoomy m s → is_live s.ends q ≡ true → IsRoomy m (turn m answer s q)
+pub turn_roomy : (m : Machine) (answer : Answer) (s : Coarse) (q : ℕ) → IsWithinLimits m → IsRoomy m s → is_live s.ends q ≡ true → IsRoomy m (turn m answer s q)
 turn_roomy m answer s q machine h v =
     let now = time_of s.ends + 1
     in let x = made_in m answer s q
@@ -415,36 +414,36 @@ turn_roomy m answer s q machine h v =
     in let time = turn-time m answer s q (is_live-below s.ends q v)
     in rw time (omega (arith, h, made, daemon, charges-append s.history x.items, room_at-next m machine (time_of s.ends)))
 
-pub turns_roomy : (m : Machine) (answer : Dir → Option ℕ → ℕ → Verdict) (s : Coarse) (qs : List ℕ) → IsMachine m → IsRoomy m s → AreLive m answer s qs → IsRoomy m (turns m answer s qs)
+pub turns_roomy : (m : Machine) (answer : Answer) (s : Coarse) (qs : List ℕ) → IsWithinLimits m → IsRoomy m s → AreLive m answer s qs → IsRoomy m (turns m answer s qs)
 turns_roomy m answer s [] machine h v = h
 turns_roomy m answer s (q ∷ qs) machine h v =
     turns_roomy m answer (turn m answer s q) qs machine (turn_roomy m answer s q machine h v.0) v.1
 
-pub run_roomy : (m : Machine) (answer : Dir → Option ℕ → ℕ → Verdict) (k : ℕ) → IsMachine m → IsRoomy m (scheduled m answer k).coarse
+pub run_roomy : (m : Machine) (answer : Answer) (k : ℕ) → IsWithinLimits m → IsRoomy m (scheduled m answer k).coarse
 run_roomy m answer k machine =
     scheduled_holds m answer (IsRoomy m) (roomy_start m) (λ s q h v. turn_roomy m answer s q machine h v) k
 
 -- ---- how long a history is
 
-pub sound_time : (m : Machine) (answer : Dir → Option ℕ → ℕ → Verdict) (s : Coarse) → Sound m answer s → time_of s.ends ≤ m.nodes * m.budget
+pub sound_time : (m : Machine) (answer : Answer) (s : Coarse) → Sound m answer s → time_of s.ends ≤ m.nodes * m.budget
 sound_time m answer s h =
     let all : length s.ends * m.budget ≡ m.nodes * m.budget = ap (λ n. n * m.budget) h.count
     in let most = time_of-most s.ends m.budget (λ q l. h.turns q (rw h.count at l))
     in omega arith
 
-pub sound_length : (m : Machine) (answer : Dir → Option ℕ → ℕ → Verdict) (s : Coarse) → Sound m answer s → IsRoomy m s → length s.history ≤ room_at m (time_of s.ends)
+pub sound_length : (m : Machine) (answer : Answer) (s : Coarse) → Sound m answer s → IsRoomy m s → length s.history ≤ room_at m (time_of s.ends)
 sound_length m answer s h r = omega (arith, length-charges m answer s.history h.items, r)
 
-pub sound_room : (m : Machine) (answer : Dir → Option ℕ → ℕ → Verdict) (s : Coarse) → IsMachine m → Sound m answer s → IsRoomy m s → length s.history ≤ room m
+pub sound_room : (m : Machine) (answer : Answer) (s : Coarse) → IsWithinLimits m → Sound m answer s → IsRoomy m s → length s.history ≤ room m
 sound_room m answer s machine h r =
     omega (arith, sound_length m answer s h r, room_at-mono m machine (time_of s.ends) (m.nodes * m.budget) (sound_time m answer s h))
 
 -- a turn's items find room
-pub turn_room : (m : Machine) (answer : Dir → Option ℕ → ℕ → Verdict) (s : Coarse) (q : ℕ) → IsMachine m → Sound m answer s → IsRoomy m s → is_live s.ends q ≡ true → length (turn m answer s q).history ≤ room m
+pub turn_room : (m : Machine) (answer : Answer) (s : Coarse) (q : ℕ) → IsWithinLimits m → Sound m answer s → IsRoomy m s → is_live s.ends q ≡ true → length (turn m answer s q).history ≤ room m
 turn_room m answer s q machine h r v =
     sound_room m answer (turn m answer s q) machine (turn_sound m answer s q machine h v) (turn_roomy m answer s q machine r v)
 
-pub coarse_run_room : (m : Machine) (answer : Dir → Option ℕ → ℕ → Verdict) → IsMachine m → length (coarse_run m answer).history ≤ room m
+pub coarse_run_room : (m : Machine) (answer : Answer) → IsWithinLimits m → length (coarse_run m answer).history ≤ room m
 unfolding coarse_run
 coarse_run_room m answer machine =
     let k = m.nodes * m.budget
@@ -452,7 +451,7 @@ coarse_run_room m answer machine =
 
 -- ---- the daemon's pass only adds items
 
-module _ (m : Machine) (answer : Dir → Option ℕ → ℕ → Verdict) (now : ℕ) where
+module _ (m : Machine) (answer : Answer) (now : ℕ) where
   thaw-longer : (s : Coarse) (p : ℕ) → length s.history ≤ length (thaw m answer now s p).history
   thaw-longer s p = by (dir_of s.history p).frozen
     where

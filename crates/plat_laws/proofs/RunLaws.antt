@@ -8,6 +8,7 @@ use Rattle.std.proofs.lemmas.Bool.Decides.{nat_tests}
 use Rattle.std.proofs.lemmas.List.{length-set, get_or-set_same, get_or-set_other, length-replicate, nil_from_length}
 use Rattle.std.proofs.lemmas.List.Folds.{sum_by-replicate}
 use Rattle.std.proofs.lemmas.List.Sums.{sum_by-cons, sum_by-set}
+use Rattle.plat_base.specs.Verdicts.{Answer}
 use Rattle.plat_base.specs.Machine.{Machine, Turns, robin, random, listed}
 use Rattle.plat_base.specs.Pages.{numbers}
 use Rattle.plat_base.specs.GuestRun.{want_of}
@@ -15,8 +16,6 @@ use Rattle.plat_base.specs.Directories.{dir_of}
 use Rattle.plat_base.specs.Alike.{same_end}
 use Rattle.plat_base.specs.Coarse.{Coarse, cut_at, coarse_start, ended_of, is_live, time_of, Made, made_by, end_after, with_made, guest_now, thaw_items, thaw, is_pass, daemon, turn}
 use Rattle.plat_base.specs.Schedule.{Chooser, Scheduled, or_else, robin_choice, listed_choice, chosen, listed_or_robin, choose, random_word, live_processors, with_choice, scheduled}
-use Rattle.plat_base.specs.declared.frames.Dir.{Dir}
-use Rattle.plat_base.specs.declared.policies.Verdict.{Verdict}
 use Rattle.plat_base.specs.declared.endings.End.{End}
 use Rattle.plat_base.specs.declared.endings.End.TheVariants as end
 use Rattle.plat_base.specs.declared.endings.Ended.{Ended}
@@ -77,7 +76,7 @@ time_of-less (e ∷ es) budget (suc q) h l k =
 
 -- ---- one turn
 
-module _ (m : Machine) (answer : Dir → Option ℕ → ℕ → Verdict) where
+module _ (m : Machine) (answer : Answer) where
   pub thaw-ends : (now : ℕ) (s : Coarse) (p : ℕ) → (thaw m answer now s p).ends ≡ s.ends
   thaw-ends now s p = by (dir_of s.history p).frozen
     where
@@ -220,7 +219,7 @@ live_processors-none m s q h l = filter-range_none (is_live s.ends) 0 m.nodes q 
 
 -- ---- so many turns
 
-module _ (m : Machine) (answer : Dir → Option ℕ → ℕ → Verdict) where
+module _ (m : Machine) (answer : Answer) where
   -- what holds at the start, and after each turn of a live processor of a state where it holds, holds after so many turns
   pub scheduled_holds : (P : Coarse → Type 0) → P (coarse_start m) → ((s : Coarse) (q : ℕ) → P s → is_live s.ends q ≡ true → P (turn m answer s q)) → (k : ℕ) → P (scheduled m answer k).coarse
   scheduled_holds P start step zero = start

@@ -4,6 +4,7 @@ use Rattle.std.specs.Prelude.{◌==◌, is_some, is_none, unwrap_or}
 use Rattle.std.specs.List.{list_all, fold}
 use Rattle.std.proofs.lemmas.Bool.{eqb-true, eq-eqb, and_parts, and_from}
 use Rattle.std.proofs.lemmas.Bool.Decides.{nat_tests}
+use Rattle.plat_base.specs.Verdicts.{Answer}
 use Rattle.plat_base.specs.Machine.{Machine}
 use Rattle.plat_base.specs.Pages.{distance}
 use Rattle.plat_base.specs.Alike.{same_verdict, state_number, same_state, right_number, same_right, cause_number, same_cause, action_number, same_action, removed_number, same_removed, same_bool, same_dir}
@@ -451,7 +452,7 @@ write_decides m b frozen node state.PresentPlus here v got h e c k =
 write_decides m b frozen node state.Modified here v got h e c k =
     write_facts m b frozen node state.Modified here (moves_page v got) got h e (ap is_empty e) c (got_of m node here v got k)
 
-pub decide_facts : (m : Machine) (answer : Dir → Option ℕ → ℕ → Verdict) (b : Dir) (last : Option ℕ) (now n : ℕ) (c : Cause) (got : Option Frame)
+pub decide_facts : (m : Machine) (answer : Answer) (b : Dir) (last : Option ℕ) (now n : ℕ) (c : Cause) (got : Option Frame)
     → c ≢ cause.Thaw → may_decide m answer b last now n c got ≡ true → DecideFacts m b got c (decide m answer b last now n c got)
 unfolding Fits
 decide_facts m answer b last now n cause.Read got t k =
@@ -497,7 +498,7 @@ thawed_same state.Present1 n = refl
 thawed_same state.PresentPlus n = refl
 thawed_same state.Modified n = absurd (n refl)
 
-pub thaw_facts : (m : Machine) (answer : Dir → Option ℕ → ℕ → Verdict) (b : Dir) (last : Option ℕ) (now n : ℕ) → is_dir m b ≡ true → b.frozen ≡ true
+pub thaw_facts : (m : Machine) (answer : Answer) (b : Dir) (last : Option ℕ) (now n : ℕ) → is_dir m b ≡ true → b.frozen ≡ true
     → ThawFacts m b (decide m answer b last now n cause.Thaw None)
 thaw_facts m answer b last now n h f =
     let parts = dir_parts m b h in
@@ -514,7 +515,7 @@ thaw_facts m answer b last now n h f =
       same = λ x. thawed_same b.state x;
     }
 
-pub may_thaw : (m : Machine) (answer : Dir → Option ℕ → ℕ → Verdict) (b : Dir) (last : Option ℕ) (now n : ℕ) → is_dir m b ≡ true → b.frozen ≡ true
+pub may_thaw : (m : Machine) (answer : Answer) (b : Dir) (last : Option ℕ) (now n : ℕ) → is_dir m b ≡ true → b.frozen ≡ true
     → may_decide m answer b last now n cause.Thaw None ≡ true
 may_thaw m answer b last now n h f = rw (h, f)
 

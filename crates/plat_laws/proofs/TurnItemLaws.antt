@@ -5,6 +5,7 @@ use Rattle.std.specs.List.{list_any, cons_option}
 use Rattle.std.proofs.lemmas.Bool.{eq-eqb, ne_eqb, lt-ltb, le-ltb, and_from, cond-true, cond-false}
 use Rattle.std.proofs.lemmas.List.{append_assoc}
 use Rattle.std.proofs.lemmas.List.Folds.{list_any-append}
+use Rattle.plat_base.specs.Verdicts.{Answer}
 use Rattle.plat_base.specs.Machine.{Machine}
 use Rattle.plat_base.specs.Pages.{page_of}
 use Rattle.plat_base.specs.GuestRun.{guest_run, want_of, Operation, Reaches, Switches, Reach, reach_of}
@@ -19,7 +20,6 @@ use Rattle.plat_base.specs.Coarse.{Coarse, is_live, message_of, switch_items, wr
 use Rattle.plat_base.specs.Rules.{is_access_next, is_switch_next, next_operation, is_ordered_access, entry_of_access, is_grant_of, is_granted, is_legal, is_fault_of, is_fault_decision, is_fault_change, is_decided, has_daemon, is_thaw_change, is_chained, may_apply, unless, first_rule, bad_rule, bad_after}
 use Rattle.plat_base.proofs.CopiesLemmas.{same_frame-itself}
 use Rattle.plat_base.specs.declared.frames.Frame.{Frame}
-use Rattle.plat_base.specs.declared.frames.Dir.{Dir}
 use Rattle.plat_base.specs.declared.items.Kind.{Kind}
 use Rattle.plat_base.specs.declared.items.Kind.TheVariants as kind
 use Rattle.plat_base.specs.declared.items.Cause.{Cause}
@@ -33,12 +33,11 @@ use Rattle.plat_base.specs.declared.items.Change.{Change}
 use Rattle.plat_base.specs.declared.items.Item.{Item}
 use Rattle.plat_base.specs.declared.items.Item.TheVariants as item
 use Rattle.plat_base.specs.declared.guests.Want.TheVariants as want
-use Rattle.plat_base.specs.declared.policies.Verdict.{Verdict}
 use Rattle.plat_base.specs.declared.policies.Decision.{Decision}
 use Rattle.plat_base.specs.declared.policies.PolicyKind.{PolicyKind}
 use Rattle.plat_base.specs.declared.policies.PolicyKind.TheVariants as policy
 use Rattle.plat_base.specs.declared.statuses.Rule.TheVariants as rule
-use Rattle.plat_laws.specs.Sound.{IsMachine, IsGuest, IsNextChange}
+use Rattle.plat_laws.specs.Sound.{IsWithinLimits, IsGuest, IsNextChange}
 use Rattle.plat_laws.proofs.ItemLaws.{same_number, all_applied, is_by, dir_of-applied, seq_of-applied, last_of-applied, values_of-applied, operations_of-applied, held-not_mine, active-access}
 use Rattle.plat_laws.proofs.GuestLaws.{next_operation-access, next_operation-switch, values_of-append, operations_of-append, IsGuest-access, IsGuest-switch, entry_reached, IsReach, IsReach-wanted, reach_of-page, reach_of-word}
 use Rattle.plat_laws.proofs.EndLaws.{bad_after-more, bad_after-one, values_of-not_by, operations_of-not_by}
@@ -136,7 +135,7 @@ access_legal m before items q r frame grant p w v c =
     (eq-eqb version (flat_writes before r.page r.word + writes_made r.kind) (ap (λ n. n + writes_made r.kind) (sym c)))
 
 bad_rule-access :
-    (m : Machine) (answer : Dir → Option ℕ → ℕ → Verdict) (before : List Item) (acc : Access)
+    (m : Machine) (answer : Answer) (before : List Item) (acc : Access)
     → is_ordered_access m before acc ≡ true → is_granted m before acc ≡ true → is_legal m before acc ≡ true
     → bad_rule m answer before (item.Access acc) ≡ None
 bad_rule-access m answer before acc = by (is_ordered_access m before acc) (is_granted m before acc) (is_legal m before acc)
@@ -150,7 +149,7 @@ bad_rule-access m answer before acc = by (is_ordered_access m before acc) (is_gr
 
 -- guest q goes on after t turns, has one more, and wants this access
 pub record WantsAccess (m : Machine) (items : List Item) (t q : ℕ) (k : Kind) (sp a o : ℕ) : Type 0 where
-  pub machine : IsMachine m
+  pub machine : IsWithinLimits m
   pub guest : IsGuest m items t q
   pub left : t < m.budget
   pub node : q < m.nodes
@@ -171,7 +170,7 @@ module _ (m : Machine) (items : List Item) (t q : ℕ) (k : Kind) (sp a o : ℕ)
 -- the access that the guest wants is good behind items that leave its next operation and flat memory alone, if it holds the
 -- translation there
 access_good :
-    (m : Machine) (answer : Dir → Option ℕ → ℕ → Verdict) (before items : List Item) (t q : ℕ) (k : Kind) (sp a o : ℕ)
+    (m : Machine) (answer : Answer) (before items : List Item) (t q : ℕ) (k : Kind) (sp a o : ℕ)
     (tr : Translation)
     → WantsAccess m items t q k sp a o
     → next_operation m before q ≡ next_operation m items q
@@ -205,7 +204,7 @@ write_right k t h w = by k t.grant.right h w
 -- ---- an access with enough right
 
 pub bad_after-hit :
-    (m : Machine) (answer : Dir → Option ℕ → ℕ → Verdict) (items : List Item) (n t q : ℕ) (k : Kind) (sp a o : ℕ)
+    (m : Machine) (answer : Answer) (items : List Item) (n t q : ℕ) (k : Kind) (sp a o : ℕ)
     (tr : Translation)
     → WantsAccess m items t q k sp a o
     → held m items q (entry_reached m sp a) ≡ Some tr → has_right k (Some tr) ≡ true → is_frame m tr.grant.frame ≡ true
@@ -238,7 +237,7 @@ is_fault_of-like m xs ys c g (Some (Switches space)) h = refl
 is_fault_of-like m xs ys c g (Some (Reaches r)) h = rw h refl
 
 is_fault_change-like :
-    (m : Machine) (answer : Dir → Option ℕ → ℕ → Verdict) (xs ys : List Item) (c : Change) (granted : Option Grant)
+    (m : Machine) (answer : Answer) (xs ys : List Item) (c : Change) (granted : Option Grant)
     → next_operation m ys c.actor ≡ next_operation m xs c.actor → last_of ys c.page ≡ last_of xs c.page
     → ((e : ℕ) → held m ys c.actor e ≡ held m xs c.actor e)
     → is_fault_change m answer ys c granted ≡ is_fault_change m answer xs c granted
@@ -252,7 +251,7 @@ is_fault_change-like m answer xs ys c (Some g) n l h =
     decision = rw l refl
 
 is_chained-applied :
-    (m : Machine) (answer : Dir → Option ℕ → ℕ → Verdict) (xs ys : List Item) (c : Change) → all_applied ys ≡ true
+    (m : Machine) (answer : Answer) (xs ys : List Item) (c : Change) → all_applied ys ≡ true
     → list_any (is_by c.actor) ys ≡ false → is_chained m answer (xs ++ ys) c ≡ is_chained m answer xs c
 is_chained-applied m answer xs ys c h n =
     let next =
@@ -264,7 +263,7 @@ is_chained-applied m answer xs ys c h n =
 
 -- the messages and their change
 bad_after-posted :
-    (m : Machine) (answer : Dir → Option ℕ → ℕ → Verdict) (s : Coarse) (n : ℕ) (c : Change)
+    (m : Machine) (answer : Answer) (s : Coarse) (n : ℕ) (c : Change)
     → is_chained m answer s.history c ≡ true → MayAllApply m s c
     → bad_after m answer s.history n (sent m s c ++ item.Change c ∷ []) ≡ None
 bad_after-posted m answer s n c h may =
@@ -299,7 +298,7 @@ next_change-by m items q p now c d granted l n f g = record {
 
 -- it is chained where it is the decision of a fault, or of a thaw
 chained-by :
-    (m : Machine) (answer : Dir → Option ℕ → ℕ → Verdict) (items : List Item) (q p now : ℕ) (c : Cause) (d : Decision)
+    (m : Machine) (answer : Answer) (items : List Item) (q p now : ℕ) (c : Cause) (d : Decision)
     (granted : Option Grant) → p < m.pages
     → (let change = change_by items q p now c d granted
     in if nat_lt q m.nodes then is_fault_change m answer items change granted
@@ -320,7 +319,7 @@ chained-by m answer items q p now c d granted l h =
 
 -- the decision of a fault of q, and the change that it makes at this entry
 
-abbrev pub fault_decision : Machine → (Dir → Option ℕ → ℕ → Verdict) → List Item → (q now : ℕ) → Reach → Decision
+abbrev pub fault_decision : Machine → Answer → List Item → (q now : ℕ) → Reach → Decision
 fault_decision m answer items q now r = decided m answer items q r.page now (cause_of r.kind)
 
 abbrev pub fault_change : List Item → (q now entry : ℕ) → Reach → Decision → Change
@@ -331,7 +330,7 @@ fault_change items q now entry r d =
 granted_as : (P : Grant → Type 0) (g x : Grant) → P g → Some g ≡ Some x → P x
 granted_as P g x h e = let same : g ≡ x = cc in subst P same h
 
-module _ (m : Machine) (answer : Dir → Option ℕ → ℕ → Verdict) (items : List Item) (t q now : ℕ) (k : Kind) (sp a o : ℕ) where
+module _ (m : Machine) (answer : Answer) (items : List Item) (t q now : ℕ) (k : Kind) (sp a o : ℕ) where
   pub next_change-fault :
       WantsAccess m items t q k sp a o → ((p : ℕ) → p < m.pages → is_dir m (dir_of items p) ≡ true)
       → is_starved m items q (reach_of m k sp a o).page ≡ false
@@ -407,7 +406,7 @@ granted_right kind.Add e seq d = refl
 
 -- where each message may be applied, and the fresh grant is held and nothing has removed it since
 pub bad_after-fault :
-    (m : Machine) (answer : Dir → Option ℕ → ℕ → Verdict) (s : Coarse) (n t q now : ℕ) (k : Kind) (sp a o : ℕ)
+    (m : Machine) (answer : Answer) (s : Coarse) (n t q now : ℕ) (k : Kind) (sp a o : ℕ)
     → WantsAccess m s.history t q k sp a o
     → ((p : ℕ) → p < m.pages → is_dir m (dir_of s.history p) ≡ true)
     → is_starved m s.history q (reach_of m k sp a o).page ≡ false
@@ -446,11 +445,11 @@ bad_after-fault m answer s n t q now k sp a o w dirs starved lacks may fresh all
 
 -- the decision of the daemon's thaw of a page, and the change that it makes
 
-abbrev pub thaw_decision : Machine → (Dir → Option ℕ → ℕ → Verdict) → List Item → (now page : ℕ) → Decision
+abbrev pub thaw_decision : Machine → Answer → List Item → (now page : ℕ) → Decision
 thaw_decision m answer items now page =
     decide m answer (dir_of items page) (last_of items page) now m.nodes cause.Thaw None
 
-abbrev pub thaw_change : Machine → (Dir → Option ℕ → ℕ → Verdict) → List Item → (now page : ℕ) → Change
+abbrev pub thaw_change : Machine → Answer → List Item → (now page : ℕ) → Change
 thaw_change m answer items now page =
     change_by items m.nodes page now cause.Thaw (thaw_decision m answer items now page) None
 
@@ -460,7 +459,7 @@ has_daemon-is_pass policy.Place now h = absurd cc
 has_daemon-is_pass policy.Replicate now h = absurd cc
 has_daemon-is_pass (policy.Platinum t1 t2) now h = refl
 
-module _ (m : Machine) (answer : Dir → Option ℕ → ℕ → Verdict) where
+module _ (m : Machine) (answer : Answer) where
   pub next_change-thaw :
       (items : List Item) (now p : ℕ) → p < m.pages → is_dir m (dir_of items p) ≡ true → (dir_of items p).frozen ≡ true
       → IsNextChange m items (thaw_change m answer items now p)
@@ -517,7 +516,7 @@ pub record WantsSwitch (m : Machine) (items : List Item) (t q space : ℕ) : Typ
   pub wants : want_of m q (guest_run m q (values_of q items) t).state ≡ want.Switch space
 
 pub bad_after-switch :
-    (m : Machine) (answer : Dir → Option ℕ → ℕ → Verdict) (items : List Item) (n t q space : ℕ) → WantsSwitch m items t q space
+    (m : Machine) (answer : Answer) (items : List Item) (n t q space : ℕ) → WantsSwitch m items t q space
     → bad_after m answer items n (switch_items m items q space) ≡ None
 bad_after-switch m answer items n t q space w =
     let next = next_operation-switch m items t q space w.guest w.left w.wants
@@ -616,7 +615,7 @@ module _ (m : Machine) (s : Coarse) (q now entry : ℕ) (r : Reach) (d : Decisio
 
 -- of a thaw
 
-module _ (m : Machine) (answer : Dir → Option ℕ → ℕ → Verdict) (s : Coarse) (now page : ℕ) where
+module _ (m : Machine) (answer : Answer) (s : Coarse) (now page : ℕ) where
   pub thaw_items-operations : (p : ℕ) → operations_of p (thaw_items m answer s now page) ≡ []
   thaw_items-operations p =
       let c = thaw_change m answer s.history now page

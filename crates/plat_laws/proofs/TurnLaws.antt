@@ -4,6 +4,7 @@ use Rattle.std.proofs.Common.{refl, ap, sym, subst, ◌∙◌, arith, ⊎_elim}
 use Rattle.std.specs.List.{fold, list_any, range_with_len}
 use Rattle.std.proofs.lemmas.Bool.{true≢false, false_from_ne_true, and_parts, lt-ltb, ltb-true, eqb-true, eqb-false, cases_eq}
 use Rattle.std.proofs.lemmas.List.{append-nil, length-replicate, get_or-replicate}
+use Rattle.plat_base.specs.Verdicts.{Answer}
 use Rattle.plat_base.specs.Machine.{Machine}
 use Rattle.plat_base.specs.Pages.{numbers, page_of, space_of}
 use Rattle.plat_base.specs.GuestRun.{guest_run, GoesOn, want_of, Reach, reach_of}
@@ -15,8 +16,6 @@ use Rattle.plat_base.specs.Alike.{same_end}
 use Rattle.plat_base.specs.Coarse.{Coarse, cut_at, coarse_start, ended_of, is_live, time_of, Made, made, is_starved, decided, cause_of, fault_items, fault_made, switch_items, grant_of, access_by, access_made, made_by, end_after, with_made, guest_now, thaw_items, thaw, is_pass, daemon, turn, turns}
 use Rattle.plat_base.specs.Schedule.{scheduled, coarse_run}
 use Rattle.plat_base.specs.Rules.{has_daemon, stands, has_made, wants_right, is_end, is_in_order, bad_after, Good, HasEnoughFrames}
-use Rattle.plat_base.specs.declared.frames.Dir.{Dir}
-use Rattle.plat_base.specs.declared.policies.Verdict.{Verdict}
 use Rattle.plat_base.specs.declared.endings.End.{End}
 use Rattle.plat_base.specs.declared.endings.End.TheVariants as end
 use Rattle.plat_base.specs.declared.endings.Ended.{Ended}
@@ -28,7 +27,7 @@ use Rattle.plat_base.specs.declared.items.Right.TheVariants as right
 use Rattle.plat_base.specs.declared.items.Change.{Change}
 use Rattle.plat_base.specs.declared.items.Translation.{Translation}
 use Rattle.plat_base.specs.declared.policies.Decision.{Decision}
-use Rattle.plat_laws.specs.Sound.{IsMachine, IsGuest, IsSettled, IsNextChange, Sound}
+use Rattle.plat_laws.specs.Sound.{IsWithinLimits, IsGuest, IsSettled, IsNextChange, Sound}
 use Rattle.plat_laws.specs.Live.{AreLive}
 use Rattle.plat_laws.proofs.Limits.{budget-some}
 use Rattle.plat_laws.proofs.ItemLaws.{is_by, is_in_order-not_mine}
@@ -66,7 +65,7 @@ left-ended : (m : Machine) (items : List Item) (q turns : ℕ) (e : End) → is_
 left-ended m items q turns e h d = record { ends = h; left = λ same. absurd (d same); guest = λ same. absurd (d same) }
 
 -- what a turn of q adds, and how it leaves q
-record IsTurn (m : Machine) (answer : Dir → Option ℕ → ℕ → Verdict) (s : Coarse) (q : ℕ) (x : Made) : Type 0 where
+record IsTurn (m : Machine) (answer : Answer) (s : Coarse) (q : ℕ) (x : Made) : Type 0 where
   good : bad_after m answer s.history (length s.history) x.items ≡ None
   settled : IsSettled m (record { history = s.history ++ x.items; ends = s.ends })
   others : (r : ℕ) → r ≢ q → operations_of r x.items ≡ []
@@ -75,7 +74,7 @@ record IsTurn (m : Machine) (answer : Dir → Option ℕ → ℕ → Verdict) (s
 
 -- the turn keeps the invariant, before the daemon's pass
 
-module _ (m : Machine) (answer : Dir → Option ℕ → ℕ → Verdict) (s : Coarse) (q : ℕ) (x : Made) (h : Sound m answer s) (v : is_live s.ends q ≡ true) (k : IsTurn m answer s q x) where
+module _ (m : Machine) (answer : Answer) (s : Coarse) (q : ℕ) (x : Made) (h : Sound m answer s) (v : is_live s.ends q ≡ true) (k : IsTurn m answer s q x) where
   abbrev after : Ended
   after = after_turn s.ends q (end_after m ((ended_of s.ends q).turns + 1) x.end)
 
@@ -151,7 +150,7 @@ module _ (m : Machine) (answer : Dir → Option ℕ → ℕ → Verdict) (s : Co
 
 -- ---- what a turn adds, by what its guest wants
 
-module _ (m : Machine) (answer : Dir → Option ℕ → ℕ → Verdict) (s : Coarse) (q : ℕ) (machine : IsMachine m) (h : Sound m answer s) (v : is_live s.ends q ≡ true) where
+module _ (m : Machine) (answer : Answer) (s : Coarse) (q : ℕ) (machine : IsWithinLimits m) (h : Sound m answer s) (v : is_live s.ends q ≡ true) where
   abbrev before : ℕ
   before = (ended_of s.ends q).turns
 
@@ -284,7 +283,7 @@ module _ (m : Machine) (answer : Dir → Option ℕ → ℕ → Verdict) (s : Co
 
 -- ---- the daemon's pass
 
-pub thaw_sound : (m : Machine) (answer : Dir → Option ℕ → ℕ → Verdict) (s : Coarse) (now p : ℕ) → Sound m answer s → has_daemon m.policy ≡ true → p < m.pages → Sound m answer (thaw m answer now s p)
+pub thaw_sound : (m : Machine) (answer : Answer) (s : Coarse) (now p : ℕ) → Sound m answer s → has_daemon m.policy ≡ true → p < m.pages → Sound m answer (thaw m answer now s p)
 thaw_sound m answer s now p h daemon l = by (dir_of s.history p).frozen refl
   where
     frozen : (dir_of s.history p).frozen ≡ true → Sound m answer (record { history = s.history ++ thaw_items m answer s now p; ends = s.ends })
@@ -309,12 +308,12 @@ thaw_sound m answer s now p h daemon l = by (dir_of s.history p).frozen refl
     by false f = h
 
 -- thaws of the pages from a on
-pub thaws_sound : (m : Machine) (answer : Dir → Option ℕ → ℕ → Verdict) (s : Coarse) (now a n : ℕ) → Sound m answer s → has_daemon m.policy ≡ true → a + n ≤ m.pages → Sound m answer (fold (thaw m answer now) s (range_with_len a n))
+pub thaws_sound : (m : Machine) (answer : Answer) (s : Coarse) (now a n : ℕ) → Sound m answer s → has_daemon m.policy ≡ true → a + n ≤ m.pages → Sound m answer (fold (thaw m answer now) s (range_with_len a n))
 thaws_sound m answer s now a zero h daemon l = h
 thaws_sound m answer s now a (suc n) h daemon l =
     thaws_sound m answer (thaw m answer now s a) now (a + 1) n (thaw_sound m answer s now a h daemon (omega arith)) daemon (omega arith)
 
-pub daemon_sound : (m : Machine) (answer : Dir → Option ℕ → ℕ → Verdict) (s : Coarse) (now : ℕ) → Sound m answer s → Sound m answer (daemon m answer now s)
+pub daemon_sound : (m : Machine) (answer : Answer) (s : Coarse) (now : ℕ) → Sound m answer s → Sound m answer (daemon m answer now s)
 daemon_sound m answer s now h = by (is_pass m.policy now) refl
   where
     by : (b : Bool) → is_pass m.policy now ≡ b → Sound m answer (if b then fold (thaw m answer now) s (numbers m.pages) else s)
@@ -324,12 +323,12 @@ daemon_sound m answer s now h = by (is_pass m.policy now) refl
 -- ---- a turn
 
 -- what the guest of a live processor wants keeps the invariant, at whatever tick
-pub with_made_sound : (m : Machine) (answer : Dir → Option ℕ → ℕ → Verdict) (s : Coarse) (q now : ℕ) → IsMachine m → Sound m answer s → is_live s.ends q ≡ true → Sound m answer (with_made m s q (made_by m answer s q now (want_of m q (guest_now m s q).state)))
+pub with_made_sound : (m : Machine) (answer : Answer) (s : Coarse) (q now : ℕ) → IsWithinLimits m → Sound m answer s → is_live s.ends q ≡ true → Sound m answer (with_made m s q (made_by m answer s q now (want_of m q (guest_now m s q).state)))
 with_made_sound m answer s q now machine h v =
     let w = want_of m q (guest_now m s q).state
     in made_sound m answer s q (made_by m answer s q now w) h v (made_turn m answer s q machine h v now w refl)
 
-pub turn_sound : (m : Machine) (answer : Dir → Option ℕ → ℕ → Verdict) (s : Coarse) (q : ℕ) → IsMachine m → Sound m answer s → is_live s.ends q ≡ true → Sound m answer (turn m answer s q)
+pub turn_sound : (m : Machine) (answer : Answer) (s : Coarse) (q : ℕ) → IsWithinLimits m → Sound m answer s → is_live s.ends q ≡ true → Sound m answer (turn m answer s q)
 turn_sound m answer s q machine h v =
     let now = time_of s.ends + 1
     in let x = made_by m answer s q now (want_of m q (guest_now m s q).state)
@@ -341,7 +340,7 @@ start-live : (m : Machine) (q : ℕ) → q < m.nodes → is_live (coarse_start m
 start-live m q l =
     rw (length-replicate m.nodes (cut_at 0), lt-ltb q m.nodes l, get_or-replicate m.nodes q (cut_at 0) (cut_at 0) l) refl
 
-pub sound_start : (m : Machine) (answer : Dir → Option ℕ → ℕ → Verdict) → IsMachine m → Sound m answer (coarse_start m)
+pub sound_start : (m : Machine) (answer : Answer) → IsWithinLimits m → Sound m answer (coarse_start m)
 sound_start m answer machine = record {
   items = refl;
   count = length-replicate m.nodes (cut_at 0);
@@ -357,30 +356,30 @@ sound_start m answer machine = record {
 }
 
 -- the turns of a list of processors each of which is live when its turn comes
-pub turns_sound : (m : Machine) (answer : Dir → Option ℕ → ℕ → Verdict) (s : Coarse) (qs : List ℕ) → IsMachine m → Sound m answer s → AreLive m answer s qs → Sound m answer (turns m answer s qs)
+pub turns_sound : (m : Machine) (answer : Answer) (s : Coarse) (qs : List ℕ) → IsWithinLimits m → Sound m answer s → AreLive m answer s qs → Sound m answer (turns m answer s qs)
 turns_sound m answer s [] machine h v = h
 turns_sound m answer s (q ∷ qs) machine h v =
     turns_sound m answer (turn m answer s q) qs machine (turn_sound m answer s q machine h v.0) v.1
 
-pub run_sound : (m : Machine) (answer : Dir → Option ℕ → ℕ → Verdict) (k : ℕ) → IsMachine m → Sound m answer (scheduled m answer k).coarse
+pub run_sound : (m : Machine) (answer : Answer) (k : ℕ) → IsWithinLimits m → Sound m answer (scheduled m answer k).coarse
 run_sound m answer k machine =
     scheduled_holds m answer (Sound m answer) (sound_start m answer machine) (λ s q h v. turn_sound m answer s q machine h v) k
 
-pub coarse_run_sound : (m : Machine) (answer : Dir → Option ℕ → ℕ → Verdict) → IsMachine m → Sound m answer (coarse_run m answer)
+pub coarse_run_sound : (m : Machine) (answer : Answer) → IsWithinLimits m → Sound m answer (coarse_run m answer)
 unfolding coarse_run
 coarse_run_sound m answer machine = run_sound m answer (m.nodes * m.budget) machine
 
 -- ---- good
 
 -- no item and no end breaks a rule, whether the run is over or not
-pub good_of_sound : (m : Machine) (answer : Dir → Option ℕ → ℕ → Verdict) (s : Coarse) → Sound m answer s → Good m answer s.history s.ends
+pub good_of_sound : (m : Machine) (answer : Answer) (s : Coarse) → Sound m answer s → Good m answer s.history s.ends
 good_of_sound m answer s h = first_bad-none m answer s.history s.ends h.items h.count (λ q l. by q l (is_live s.ends q) refl)
   where
     by : (q : ℕ) → q < m.nodes → (b : Bool) → is_live s.ends q ≡ b → is_in_order m s.history s.ends q ≡ true
     by q l true v = is_in_order-live m s.history s.ends q v (h.turns q l) (h.guest q v)
     by q l false v = h.ended q l v
 
-pub run_good : (m : Machine) (answer : Dir → Option ℕ → ℕ → Verdict) → IsMachine m → Good m answer (coarse_run m answer).history (coarse_run m answer).ends
+pub run_good : (m : Machine) (answer : Answer) → IsWithinLimits m → Good m answer (coarse_run m answer).history (coarse_run m answer).ends
 run_good m answer machine = good_of_sound m answer (coarse_run m answer) (coarse_run_sound m answer machine)
 
 -- ---- the end of a run
@@ -393,7 +392,7 @@ starved_few m items q t h =
     in ltb-true m.frames m.pages (and_parts (nat_lt m.frames m.pages) (stands r t GoesOn) two.0).0
 
 -- where there is a frame for each page on each module, no processor ends for want of frames
-pub sound-no_frames : (m : Machine) (answer : Dir → Option ℕ → ℕ → Verdict) (s : Coarse) (q : ℕ) → HasEnoughFrames m → Sound m answer s → q < m.nodes → (ended_of s.ends q).end ≢ end.NoFrames
+pub sound-no_frames : (m : Machine) (answer : Answer) (s : Coarse) (q : ℕ) → HasEnoughFrames m → Sound m answer s → q < m.nodes → (ended_of s.ends q).end ≢ end.NoFrames
 sound-no_frames m answer s q enough h l e = by (is_live s.ends q) refl
   where
     starved : (t : ℕ) → is_end m s.history q end.NoFrames t ≡ true → ⊥
@@ -406,7 +405,7 @@ sound-no_frames m answer s q enough h l e = by (is_live s.ends q) refl
     by false v = starved (ended_of s.ends q).turns (sym (ap (λ x. is_end m s.history q x (ended_of s.ends q).turns) e) ∙ (and_parts (nat_le (ended_of s.ends q).turns m.budget) _ (h.ended q l v)).1)
 
 -- once the turns of all budgets are made nobody is live
-pub sound-over : (m : Machine) (answer : Dir → Option ℕ → ℕ → Verdict) (s : Coarse) (q : ℕ) → Sound m answer s → time_of s.ends ≡ m.nodes * m.budget → is_live s.ends q ≡ false
+pub sound-over : (m : Machine) (answer : Answer) (s : Coarse) (q : ℕ) → Sound m answer s → time_of s.ends ≡ m.nodes * m.budget → is_live s.ends q ≡ false
 sound-over m answer s q h t =
     false_from_ne_true (is_live s.ends q) (λ v.
     let less = time_of-less s.ends m.budget q (λ r l. h.turns r (rw h.count at l)) (is_live-below s.ends q v) (h.left q v)
@@ -414,7 +413,7 @@ sound-over m answer s q h t =
     in absurd (omega arith))
 
 -- after as many turns as all budgets together nobody is live
-pub run_over : (m : Machine) (answer : Dir → Option ℕ → ℕ → Verdict) (q : ℕ) → IsMachine m → q < m.nodes → is_live (coarse_run m answer).ends q ≡ false
+pub run_over : (m : Machine) (answer : Answer) (q : ℕ) → IsWithinLimits m → q < m.nodes → is_live (coarse_run m answer).ends q ≡ false
 unfolding coarse_run
 run_over m answer q machine l =
     let k = m.nodes * m.budget
@@ -422,12 +421,12 @@ run_over m answer q machine l =
     in ⊎_elim (λ none. live_processors-none m s q none l) (sound-over m answer s q (run_sound m answer k machine)) (scheduled-time m answer k)
 
 -- so each guest has halted, trapped or made its budget, or found no frame
-pub run_not_cut : (m : Machine) (answer : Dir → Option ℕ → ℕ → Verdict) (q : ℕ) → IsMachine m → q < m.nodes → (ended_of (coarse_run m answer).ends q).end ≢ end.Cut
+pub run_not_cut : (m : Machine) (answer : Answer) (q : ℕ) → IsWithinLimits m → q < m.nodes → (ended_of (coarse_run m answer).ends q).end ≢ end.Cut
 run_not_cut m answer q machine l e =
     let s = coarse_run m answer
     in let below : q < length s.ends = omega (arith, (coarse_run_sound m answer machine).count)
     in let live : is_live s.ends q ≡ true = rw (lt-ltb q (length s.ends) below) (ap (λ x. same_end x end.Cut) e)
     in true≢false (sym live ∙ run_over m answer q machine l)
 
-pub run_no_frames : (m : Machine) (answer : Dir → Option ℕ → ℕ → Verdict) (q : ℕ) → IsMachine m → HasEnoughFrames m → q < m.nodes → (ended_of (coarse_run m answer).ends q).end ≢ end.NoFrames
+pub run_no_frames : (m : Machine) (answer : Answer) (q : ℕ) → IsWithinLimits m → HasEnoughFrames m → q < m.nodes → (ended_of (coarse_run m answer).ends q).end ≢ end.NoFrames
 run_no_frames m answer q machine enough l = sound-no_frames m answer (coarse_run m answer) q enough (coarse_run_sound m answer machine) l

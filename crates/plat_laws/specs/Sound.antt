@@ -1,5 +1,6 @@
 -- the invariant of the coarse run: what holds of its history and ends between turns, for every policy
-use Rattle.std.specs.Prelude.{◌≡◌, ◌≢◌, ℕ, ◌+◌, ◌<◌, ◌≤◌, true, false, List, [], length, Option, Some, None, IsTrue}
+use Rattle.std.specs.Prelude.{◌≡◌, ◌≢◌, ℕ, ◌+◌, ◌<◌, ◌≤◌, true, false, List, [], length, Some, None, IsTrue}
+use Rattle.plat_base.specs.Verdicts.{Answer}
 use Rattle.plat_base.specs.Machine.{Machine, is_machine}
 use Rattle.plat_base.specs.Pages.{page_of, space_of}
 use Rattle.plat_base.specs.GuestRun.{guest_run, GoesOn}
@@ -9,7 +10,6 @@ use Rattle.plat_base.specs.Held.{held, active, later, removes_all, removes_write
 use Rattle.plat_base.specs.Decide.{is_dir, is_frame}
 use Rattle.plat_base.specs.Coarse.{Coarse, ended_of, is_live, by_other}
 use Rattle.plat_base.specs.Rules.{bad_after, is_in_order}
-use Rattle.plat_base.specs.declared.frames.Dir.{Dir}
 use Rattle.plat_base.specs.declared.frames.State.TheVariants as state
 use Rattle.plat_base.specs.declared.items.Right.TheVariants as right
 use Rattle.plat_base.specs.declared.items.Removed.TheVariants as removed
@@ -17,10 +17,10 @@ use Rattle.plat_base.specs.declared.items.Grant.{Grant}
 use Rattle.plat_base.specs.declared.items.Change.{Change}
 use Rattle.plat_base.specs.declared.items.Item.{Item}
 use Rattle.plat_base.specs.declared.items.Translation.{Translation}
-use Rattle.plat_base.specs.declared.policies.Verdict.{Verdict}
 
-abbrev pub IsMachine : Machine → Type 0
-IsMachine m = IsTrue (is_machine m)
+-- a machine within the limits of a machine text
+abbrev pub IsWithinLimits : Machine → Type 0
+IsWithinLimits m = IsTrue (is_machine m)
 
 -- q's guest after so many turns on the values that it got in these items: it made them all, its operations are those of
 -- the items, and it goes on
@@ -83,7 +83,7 @@ pub record IsNextChange (m : Machine) (items : List Item) (c : Change) : Type 0 
   pub granted_page : (g : Grant) → c.granted ≡ Some g → page_of m g.entry ≡ c.page
   pub granted_frame : (g : Grant) → c.granted ≡ Some g → is_frame m g.frame ≡ true
 
-pub record Sound (m : Machine) (answer : Dir → Option ℕ → ℕ → Verdict) (s : Coarse) : Type 0 where
+pub record Sound (m : Machine) (answer : Answer) (s : Coarse) : Type 0 where
   pub items : bad_after m answer [] 0 s.history ≡ None
   pub count : length s.ends ≡ m.nodes
   pub turns : (q : ℕ) → q < m.nodes → (ended_of s.ends q).turns ≤ m.budget

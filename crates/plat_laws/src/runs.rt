@@ -16,6 +16,6 @@ pub fn any_policy_coarse<P: Policy>(cfg: &Config, policy: &P)
     ensures good { Good (machine cfg.now) (P.answer policy.now) (coarse_run (machine cfg.now) (P.answer policy.now)).history (coarse_run (machine cfg.now) (P.answer policy.now)).ends }
     ensures history { IsOneHistory (machine cfg.now) (coarse_run (machine cfg.now) (P.answer policy.now)).history (coarse_run (machine cfg.now) (P.answer policy.now)).ends }
     ensures over { (q : ℕ) → q < cfg.now.nodes → (ended_of (coarse_run (machine cfg.now) (P.answer policy.now)).ends q).end ≢ ends.Cut }
-    ensures fed { HasEnoughFrames (machine cfg.now) → (q : ℕ) → q < cfg.now.nodes → (ended_of (coarse_run (machine cfg.now) (P.answer policy.now)).ends q).end ≢ ends.NoFrames }
+    ensures framed { HasEnoughFrames (machine cfg.now) → (q : ℕ) → q < cfg.now.nodes → (ended_of (coarse_run (machine cfg.now) (P.answer policy.now)).ends q).end ≢ ends.NoFrames }
     ensures bound { length (coarse_run (machine cfg.now) (P.answer policy.now)).history ≤ room (machine cfg.now) }
 {}

@@ -2,6 +2,7 @@
 use Rattle.std.proofs.Common.{◌≡◌, ℕ, ◌<◌, Bool, true, false, if◌then◌else◌, Option, Some, None, refl, arith, []}
 use Rattle.std.specs.Prelude.{IsTrue, ◌&&◌, ◌||◌, not, is_some, is_none}
 use Rattle.std.proofs.lemmas.Bool.Decides.{nat_tests}
+use Rattle.plat_base.specs.Verdicts.{Answer}
 use Rattle.plat_base.specs.declared.frames.Frame.{Frame}
 use Rattle.plat_base.specs.declared.frames.Dir.{Dir}
 use Rattle.plat_base.specs.declared.frames.State.{State}
@@ -71,17 +72,17 @@ write-fits m Modified None (Some g) v node l h = grind (arith, nat_tests)
 write-fits m Modified (Some f) got v node l h = grind (arith, nat_tests)
 
 -- the row of a fault, where the policy was asked only if needed, is the row of the definition
-pub fault-row : (c : Cause) (answer : Dir → Option ℕ → ℕ → Verdict) (dir : Dir) (last : Option ℕ) (now node : ℕ) (got : Option Frame) → (c ≡ cause.Thaw → ⊥) → row_of c dir.state (is_some (copy_on node dir.copies)) (moves_page (asked answer dir last now node) got) ≡ row_of c dir.state (is_some (copy_on node dir.copies)) (moves_page (answer dir last now) got)
+pub fault-row : (c : Cause) (answer : Answer) (dir : Dir) (last : Option ℕ) (now node : ℕ) (got : Option Frame) → (c ≡ cause.Thaw → ⊥) → row_of c dir.state (is_some (copy_on node dir.copies)) (moves_page (asked answer dir last now node) got) ≡ row_of c dir.state (is_some (copy_on node dir.copies)) (moves_page (answer dir last now) got)
 fault-row cause.Read answer dir last now node got h = read-row dir.state (copy_on node dir.copies) got (answer dir last now)
 fault-row cause.Write answer dir last now node got h = write-row dir.state (copy_on node dir.copies) got (answer dir last now)
 fault-row cause.Thaw answer dir last now node got h = absurd (h refl)
 
-pub fault-frozen : (c : Cause) (answer : Dir → Option ℕ → ℕ → Verdict) (dir : Dir) (last : Option ℕ) (now node : ℕ) → (c ≡ cause.Thaw → ⊥) → dir.frozen || same_verdict (asked answer dir last now node) Freeze ≡ frozen_after (asks c dir node) (answer dir last now) dir.frozen
+pub fault-frozen : (c : Cause) (answer : Answer) (dir : Dir) (last : Option ℕ) (now node : ℕ) → (c ≡ cause.Thaw → ⊥) → dir.frozen || same_verdict (asked answer dir last now node) Freeze ≡ frozen_after (asks c dir node) (answer dir last now) dir.frozen
 fault-frozen cause.Read answer dir last now node h = frozen-asked (asks cause.Read dir node) dir.frozen (answer dir last now)
 fault-frozen cause.Write answer dir last now node h = frozen-asked (asks cause.Write dir node) dir.frozen (answer dir last now)
 fault-frozen cause.Thaw answer dir last now node h = absurd (h refl)
 
-pub fault-fits : (m : Machine) (c : Cause) (answer : Dir → Option ℕ → ℕ → Verdict) (dir : Dir) (last : Option ℕ) (now node : ℕ) (got : Option Frame) → (c ≡ cause.Thaw → ⊥) → node < m.nodes → IsTrue (fits_cause m answer dir last now node c got) → IsTrue (row_fits m (row_of c dir.state (is_some (copy_on node dir.copies)) (moves_page (answer dir last now) got)) dir.state (copy_on node dir.copies) node got)
+pub fault-fits : (m : Machine) (c : Cause) (answer : Answer) (dir : Dir) (last : Option ℕ) (now node : ℕ) (got : Option Frame) → (c ≡ cause.Thaw → ⊥) → node < m.nodes → IsTrue (fits_cause m answer dir last now node c got) → IsTrue (row_fits m (row_of c dir.state (is_some (copy_on node dir.copies)) (moves_page (answer dir last now) got)) dir.state (copy_on node dir.copies) node got)
 fault-fits m cause.Read answer dir last now node got h l k = read-fits m dir.state (copy_on node dir.copies) got (answer dir last now) node l k
 fault-fits m cause.Write answer dir last now node got h l k = write-fits m dir.state (copy_on node dir.copies) got (answer dir last now) node l k
 fault-fits m cause.Thaw answer dir last now node got h l k = absurd (h refl)

@@ -1,5 +1,6 @@
 -- the rows of the table of protocol actions, and what each one needs
 use Rattle.std.specs.Prelude.{ℕ, Bool, nat_lt, if◌then◌else◌, ◌&&◌, not, is_some, Option}
+use Rattle.plat_base.specs.Verdicts.{Answer}
 use Rattle.plat_base.specs.Machine.{Machine}
 use Rattle.plat_base.specs.Decide as decide
 use Rattle.plat_base.specs.Decide.{is_empty, is_some_frame, asks}
@@ -55,5 +56,5 @@ row_fits m decide.WriteMoveMany state here node got = is_some_frame m got
 row_fits m decide.Thawed state here node got = not (is_empty state)
 
 -- the policy's answer where it is asked at a fault, else that the page stays
-abbrev pub asked : (Dir → Option ℕ → ℕ → Verdict) → Dir → Option ℕ → (now node : ℕ) → Verdict
+abbrev pub asked : Answer → Dir → Option ℕ → (now node : ℕ) → Verdict
 asked answer dir last now node = if asks cause.Read dir node then answer dir last now else verdict.Stay

@@ -5,6 +5,7 @@ use Rattle.std.specs.List.{flat_map}
 use Rattle.std.proofs.lemmas.List.{append-nil}
 use Rattle.std.proofs.lemmas.Option.{slice_get_read}
 use Rattle.std.proofs.lemmas.Bool.Decides.{nat_tests}
+use Rattle.plat_base.specs.Verdicts.{Answer}
 use Rattle.plat_base.specs.Machine.{Machine}
 use Rattle.plat_base.specs.Pages.{numbers}
 use Rattle.plat_base.specs.Flat.{flat_value}
@@ -39,7 +40,7 @@ bad_or-none : (a b : Option Bad) → bad_or a b ≡ None → (a ≡ None) × (b 
 bad_or-none None b h = (refl, h)
 bad_or-none (Some x) b h = absurd cc
 
-legal-from_rule : (m : Machine) (answer : Dir → Option ℕ → ℕ → Verdict) (before : List Item) (i : Item) → bad_rule m answer before i ≡ None → is_legal_item m before i ≡ true
+legal-from_rule : (m : Machine) (answer : Answer) (before : List Item) (i : Item) → bad_rule m answer before i ≡ None → is_legal_item m before i ≡ true
 legal-from_rule m answer before (item.Access a) h =
     let order = first_rule-none (unless (is_ordered_access m before a) _) _ h in
     let grant = first_rule-none (unless (is_granted m before a) _) _ order.1 in
@@ -49,7 +50,7 @@ legal-from_rule m answer before (item.Applied x) h = refl
 legal-from_rule m answer before (item.Switch s) h = refl
 
 legal-behind :
-    (m : Machine) (answer : Dir → Option ℕ → ℕ → Verdict) (before : List Item) (n : ℕ) (items : List Item) → bad_after m answer before n items ≡ None
+    (m : Machine) (answer : Answer) (before : List Item) (n : ℕ) (items : List Item) → bad_after m answer before n items ≡ None
     → (i : ℕ) → IfSome (slice_get items i) (λ x. IsTrue (is_legal_item m (before ++ take i items) x))
 legal-behind m answer before n [] h i = tt
 legal-behind m answer before n (x ∷ xs) h zero =
@@ -58,7 +59,7 @@ legal-behind m answer before n (x ∷ xs) h (suc i) =
     subst (λ (behind : List Item). IfSome (slice_get xs i) (λ y. IsTrue (is_legal_item m behind y))) (append_assoc before (x ∷ []) (take i xs))
     (legal-behind m answer (before ++ x ∷ []) (n + 1) xs (bad_at-none n (bad_rule m answer before x) _ h).1 i)
 
-pub legal_of_good : (m : Machine) (answer : Dir → Option ℕ → ℕ → Verdict) (items : List Item) (ends : List Ended) → first_bad m answer items ends ≡ None → AreLegal m items
+pub legal_of_good : (m : Machine) (answer : Answer) (items : List Item) (ends : List Ended) → first_bad m answer items ends ≡ None → AreLegal m items
 unfolding first_bad
 legal_of_good m answer items ends h = legal-behind m answer [] 0 items (bad_or-none (bad_after m answer [] 0 items) (bad_ends m items ends) h).0
 
@@ -70,7 +71,7 @@ fine-none : (b : Bool) (x : Bad) → (if b then None else Some x) ≡ None → b
 fine-none true x h = refl
 fine-none false x h = absurd cc
 
-pub ends_of_good : (m : Machine) (answer : Dir → Option ℕ → ℕ → Verdict) (items : List Item) (ends : List Ended) → first_bad m answer items ends ≡ None → length ends ≡ m.nodes
+pub ends_of_good : (m : Machine) (answer : Answer) (items : List Item) (ends : List Ended) → first_bad m answer items ends ≡ None → length ends ≡ m.nodes
 unfolding first_bad
 ends_of_good m answer items ends h =
     let none = (bad_or-none (bad_after m answer [] 0 items) (bad_ends m items ends) h).1 in grind (arith, nat_tests, both-true, fine-none, none)

@@ -45,7 +45,7 @@ returns g c =
       good = subst (λ (is : List Item). Good m (policy_answer m.policy) is (ends_of m)) (sym kept) good;
       one = subst (λ (is : List Item). IsOneHistory m is (ends_of m)) (sym kept) (one_history m (policy_answer m.policy) (history_of m) (ends_of m) good);
       over = λ q inside. run_not_cut m (policy_answer m.policy) q limits inside;
-      fed = λ enough q inside. run_no_frames m (policy_answer m.policy) q limits enough inside;
+      framed = λ enough q inside. run_no_frames m (policy_answer m.policy) q limits enough inside;
       written =
           subst (λ (is : List Item). IsWritten g.K.Sink c.args.sink.now c.report-written.new.sink c.status_after.result (report m is (ends_of m))) (sym kept)
           (written_by g.K.Sink c.args.sink.now c.report-written.new.sink c.report-written.result (report m (history_of m) (ends_of m)) complete c.status_after.result (no_write_fault (ends_of m)) now_is written);

@@ -1,7 +1,7 @@
 use Rattle.std.proofs.Common.{◌≡◌, ◌/◌, Some, subst, sym, ◌∙◌}
 use Rattle.plat_base.specs.Machine.{Machine}
 use Rattle.plat_base.specs.Pages.{entry_at}
-use Rattle.plat_base.specs.GuestRun.{Reach, reach_of}
+use Rattle.plat_base.specs.GuestRun.{reach_of}
 use Rattle.plat_coarse.specs.Reached.{reach_seen}
 use Rattle.plat_coarse.proofs.MachineLemmas.{limits_of}
 use Rattle.plat_coarse.proofs.ReachLemmas.{LeadsTo, LeadsTo-found}

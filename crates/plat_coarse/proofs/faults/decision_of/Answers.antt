@@ -1,11 +1,9 @@
-use Rattle.std.proofs.Common.{◌≡◌, ℕ, subst, sym, false, ◌∙◌, ap, Some}
+use Rattle.std.proofs.Common.{◌≡◌, subst, sym, false}
 use Rattle.std.specs.Prelude.{IsTrue}
 use Rattle.plat_base.specs.Machine.{Machine}
-use Rattle.plat_base.specs.Coarse.{is_starved, got_frame}
+use Rattle.plat_base.specs.Coarse.{is_starved}
 use Rattle.plat_base.specs.Decide.{decide, fits_cause}
-use Rattle.plat_base.specs.Directories.{dir_of, last_of}
 use Rattle.plat_base.specs.Verdicts.{policy_answer}
-use Rattle.plat_base.specs.declared.policies.Decision.{Decision}
 use Rattle.plat_coarse.proofs.FaultLemmas.{starved-got, fits-fed, decided-fed}
 use Rattle.plat_coarse.proofs.faults.decision_of.Goals as goal
 

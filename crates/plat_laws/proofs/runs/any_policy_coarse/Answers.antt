@@ -21,8 +21,8 @@ pub returns-clause-over : goal.returns-clause-over
 returns-clause-over g c = λ q inside. run_not_cut (machine c.args.cfg.now) (g.P.Policy.answer c.args.policy.now) q c.args.cfg.now.limits inside
 
 -- src/runs.rt:13:1
-pub returns-clause-fed : goal.returns-clause-fed
-returns-clause-fed g c =
+pub returns-clause-framed : goal.returns-clause-framed
+returns-clause-framed g c =
     λ enough q inside. run_no_frames (machine c.args.cfg.now) (g.P.Policy.answer c.args.policy.now) q c.args.cfg.now.limits enough inside
 
 -- src/runs.rt:13:1

@@ -1,4 +1,3 @@
-use Rattle.std.proofs.Common.{refl, arith}
 use Rattle.plat_base.specs.Seen.{machine}
 use Rattle.plat_coarse.proofs.FollowsLemmas.{Follows-access}
 use Rattle.plat_coarse.proofs.chronicle.Chronicle.add_access.Goals as goal

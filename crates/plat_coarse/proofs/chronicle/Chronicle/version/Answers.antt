@@ -1,5 +1,4 @@
 use Rattle.std.proofs.Common.{arith}
-use Rattle.plat_base.specs.Seen.{machine}
 use Rattle.plat_coarse.proofs.FollowsLemmas.{flat_writes-at_most}
 use Rattle.plat_coarse.proofs.chronicle.Chronicle.version.Goals as goal
 

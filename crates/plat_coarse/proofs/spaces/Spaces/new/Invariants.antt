@@ -1,4 +1,4 @@
-use Rattle.std.proofs.Common.{◌≡◌, ℕ, ◌<◌, length, get_or}
+use Rattle.std.proofs.Common.{◌≡◌, ℕ, ◌<◌, length}
 use Rattle.plat_base.specs.Machine.{programs_seen}
 use Rattle.plat_base.specs.Pages.{no_program}
 use Rattle.std.specs.Prelude.{slice_index, slice_index_or}

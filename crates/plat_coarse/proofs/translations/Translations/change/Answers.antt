@@ -1,4 +1,4 @@
-use Rattle.std.proofs.Common.{ℕ, [], None, arith, length, get_or, ◌≡◌, ◌<◌}
+use Rattle.std.proofs.Common.{[], arith, get_or, ◌≡◌, ◌<◌}
 use Rattle.std.proofs.lemmas.Bool.Decides.{nat_tests}
 use Rattle.std.proofs.lemmas.List.{get_or_default, length-set}
 use Rattle.plat_base.specs.Seen.{machine}

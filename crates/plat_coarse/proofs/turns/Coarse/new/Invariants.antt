@@ -1,5 +1,5 @@
-use Rattle.std.proofs.Common.{◌≡◌, ℕ, ◌+◌, ◌<◌, ◌≤◌, length}
-use Rattle.std.specs.Prelude.{slice_index_or, replicate, vec_len, vec_capacity}
+use Rattle.std.proofs.Common.{◌≡◌, ℕ, ◌<◌, ◌≤◌, length}
+use Rattle.std.specs.Prelude.{slice_index_or, replicate, vec_capacity}
 use Rattle.plat_base.specs.Seen.{machine}
 use Rattle.plat_base.specs.Coarse.{cut_at}
 use Rattle.plat_guest.specs.GuestSeen.{new_guest}

@@ -1,6 +1,6 @@
 use Rattle.std.proofs.Common.{◌≡◌, ◌+◌, ◌++◌, length, true, ap, sym, subst, arith, length-append, ◌∙◌, List}
 use Rattle.plat_base.specs.Machine.{Machine}
-use Rattle.plat_base.specs.Coarse.{Coarse, Made, is_live as is_live_of, ended_of, guest_now, made_by, turn as turn_of}
+use Rattle.plat_base.specs.Coarse.{Made, is_live as is_live_of, ended_of, guest_now, made_by, turn as turn_of}
 use Rattle.plat_base.specs.GuestRun.{want_of}
 use Rattle.plat_base.specs.Seen.{machine}
 use Rattle.plat_base.specs.Verdicts.{policy_answer}
@@ -8,7 +8,7 @@ use Rattle.plat_base.specs.declared.endings.Ended.{Ended}
 use Rattle.plat_guest.specs.GuestSeen.{GuestSeen}
 use Rattle.plat_laws.proofs.Limits.{budget-most}
 use Rattle.plat_coarse.specs.Acted.{value_found}
-use Rattle.plat_coarse.specs.Advanced.{no_guest, guests_after}
+use Rattle.plat_coarse.specs.Advanced.{guests_after}
 use Rattle.plat_coarse.specs.CoarseSeen.{CoarseSeen, RunsOn}
 use Rattle.plat_coarse.specs.Running.{state_of}
 use Rattle.plat_coarse.proofs.TurnLemmas.{wants, made_at-now, spare_at, few_at, ended_at, tick_below, turns_below, node_below, made_is_sound, passed_is, passed_length, passed_few, settled_length, RunsOn-turn}
