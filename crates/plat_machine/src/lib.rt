@@ -7,6 +7,8 @@ mod headers;
 mod instructions;
 mod lists;
 #[cfg(test)]
+mod parse_tests;
+#[cfg(test)]
 mod print_tests;
 mod printing;
 mod printing_guests;

@@ -153,7 +153,7 @@ fn smallest(alloc: Global) -> Result<Config, OutOfMemory> {
     )
 }
 
-const SMALLEST: &[u8] = b"platinum 1
+pub const SMALLEST: &[u8] = b"platinum 1
 nodes 1
 frames 1
 words 4
@@ -256,7 +256,7 @@ fn with_each_line(alloc: Global) -> Result<Config, OutOfMemory> {
     )
 }
 
-const EACH_LINE: &[u8] = b"platinum 1
+pub const EACH_LINE: &[u8] = b"platinum 1
 nodes 2
 frames 1
 words 4
