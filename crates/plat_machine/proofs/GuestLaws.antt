@@ -40,7 +40,7 @@ pub record ProgramParts (p : Program) : Type 0 where
 abbrev first_four : Program → Bool
 first_four p = leb p.space 7 && leb (length p.code) 4096 && leb (length p.labels) 256 && list_all (is_instr (length p.labels)) p.code
 
-program-parts : (p : Program) → is_program p ≡ true → ProgramParts p
+pub program-parts : (p : Program) → is_program p ≡ true → ProgramParts p
 program-parts p e =
     let a = and_parts (first_four p && labels_rise 0 (length p.code) p.labels) (all_differ same_name p.labels) e in
     let b = and_parts (first_four p) (labels_rise 0 (length p.code) p.labels) a.0 in
@@ -99,7 +99,7 @@ guest-takes rest p after e =
       record { limits = program-from _ parts; names = body.names },
     ))))
 
-name_at : (labels : List Label) → AllByRecursion (λ l. is_label_name l.name ≡ true) labels → (k : ℕ) → k < length labels → is_label_name (label_name labels k) ≡ true
+pub name_at : (labels : List Label) → AllByRecursion (λ l. is_label_name l.name ≡ true) labels → (k : ℕ) → k < length labels → is_label_name (label_name labels k) ≡ true
 name_at [] h k inside = absurd (omega arith)
 name_at (l ∷ ls) h zero inside = h.0
 name_at (l ∷ ls) h (suc k) inside = name_at ls h.1 k (omega arith)

@@ -13,3 +13,5 @@ pub mod PrintLimits
 pub mod PrintLines
 pub mod PrintLabels
 pub mod PrintParts
+pub mod PlainCanon
+pub mod PrintNames

@@ -316,7 +316,7 @@ end-again rest more e =
 end_size : (lines : List Words) → lists_size (lines ++ last_line) ≡ lists_size lines + 4
 end_size lines = lists_size-append lines last_line
 
-some_words : (w : List ℕ) (ws : Words) → has_words (w ∷ ws) ≡ true
+pub some_words : (w : List ℕ) (ws : Words) → has_words (w ∷ ws) ≡ true
 some_words w ws = not_from_false _ (no_zero (length ws)) where
   no_zero : (n : ℕ) → eqb (suc n) 0 ≡ false
   no_zero n = grind (arith, nat_tests)

@@ -1,3 +1,4 @@
 pub mod Shown
 pub mod Printed
 pub mod PrintTried
+pub mod Named

@@ -1,13 +1,13 @@
 -- the bytes of lines of plain words are read as these lines again
-use Rattle.std.proofs.Common.{◌≡◌, ℕ, zero, suc, ◌+◌, ◌^◌, ◌<◌, ◌≤◌, Bool, true, false, not, ◌&&◌, cond, eqb, leb, List, [], ◌∷◌, ◌++◌, length, take, drop, refl, ap, sym, ◌∙◌, arith, append_assoc, append-nil, take_all}
+use Rattle.std.proofs.Common.{◌≡◌, ℕ, zero, suc, ◌+◌, ◌^◌, ◌<◌, ◌≤◌, Bool, true, false, not, ◌&&◌, eqb, leb, List, [], ◌∷◌, ◌++◌, length, take, drop, refl, ap, ◌∙◌, arith, append_assoc, append-nil, take_all}
 use Rattle.std.specs.List.{AllByRecursion, list_all, slice_split, onto_first, flat_map, filter, position_or_len}
 use Rattle.std.specs.Char.{is_ascii_digit}
 use Rattle.std.specs.Fmt.{decimal}
 use Rattle.std.proofs.lemmas.Bool.{and_parts, and_from, not-true, not_from_false}
 use Rattle.std.proofs.lemmas.Bool.Decides.{nat_tests}
 use Rattle.std.proofs.lemmas.List.Splits.{slice_split-cons_yes, slice_split-cons_no, length-slice_split}
-use Rattle.plat_base.specs.Lines.{LineText, Word, is_feed, is_space, is_hash, is_empty, lines_of, numbered, uncommented, placed, has_bytes, words_at, words_of, texts, is_spelling}
-use Rattle.plat_base.specs.Text.{line_bytes, text_bytes}
+use Rattle.plat_base.specs.Lines.{LineText, is_feed, is_space, is_hash, is_empty, lines_of, numbered, uncommented, placed, has_bytes, words_at, texts}
+use Rattle.plat_base.specs.Text.{text_bytes}
 use Rattle.plat_base.specs.Labels.{is_label_byte, is_small_letter, is_label_name}
 use Rattle.plat_base.specs.Grammar.{IsClean, line_words, has_words, word_lists}
 use Rattle.plat_text.proofs.LineLemmas.{numbered-more, lines_of-nil}
