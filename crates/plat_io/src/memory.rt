@@ -1,5 +1,5 @@
 //! A source and a sink in memory that fail at calls that are named when they are made.
-ghost use Rattle.std.specs.Prelude.{◌≡◌, ◌+◌, ◌-◌, ◌<◌, ◌≤◌, ◌↔◌, ◌⊎◌, if◌then◌else◌, [], ◌++◌, length, take, min, Contains, IsTrue, IsErr, is_err, IfOk, OnErr};
+ghost use Rattle.std.specs.Prelude.{◌≡◌, ◌+◌, ◌-◌, ◌<◌, ◌≤◌, ◌↔◌, ◌⊎◌, if◌then◌else◌, [], ◌++◌, length, take, min, Contains, IsTrue, IsErr, is_err, IfOk, OnOk, OnErr};
 ghost use Rattle.plat_io.specs.Streams.{HasRisen, raised};
 
 use crate::faults::Failed;
@@ -63,6 +63,8 @@ impl Source for MemorySource {
         ensures calls { self.new.calls ≡ raised self.old.calls }
         ensures exactly { IsErr result ↔ Contains self.old.fails self.new.calls }
         ensures fails { self.new.fails ≡ self.old.fails }
+        ensures same { OnOk result (self.new.faults ≡ self.old.faults) }
+        ensures raised { OnErr result (self.new.faults ≡ raised self.old.faults) }
         ensures count { self.old.faults ≤ self.new.faults }
         ensures failed { OnErr result (HasRisen self.old.faults self.new.faults) }
         ensures kept { OnErr result (self.new.left ≡ self.old.left) }
@@ -135,6 +137,8 @@ impl Sink for MemorySink {
         ensures calls { self.new.calls ≡ raised self.old.calls }
         ensures exactly { IsErr result ↔ (Contains self.old.fails self.new.calls ⊎ ((length self.old.bytes ≡ self.old.size) × (0 < length bytes.now))) }
         ensures fails { self.new.fails ≡ self.old.fails }
+        ensures same { OnOk result (self.new.faults ≡ self.old.faults) }
+        ensures raised { OnErr result (self.new.faults ≡ raised self.old.faults) }
         ensures count { self.old.faults ≤ self.new.faults }
         ensures failed { OnErr result (HasRisen self.old.faults self.new.faults) }
         ensures kept { OnErr result (self.new.bytes ≡ self.old.bytes) }

@@ -1,6 +1,6 @@
 //! A source and a sink in memory that fail as little as they can.
-ghost use Rattle.std.specs.Prelude.{◌≡◌, ◌+◌, ◌-◌, ◌<◌, ◌≤◌, ◌↔◌, [], ◌++◌, length, take, min, IsOk, IsErr, IfOk, OnErr};
-ghost use Rattle.plat_io.specs.Streams.{HasRisen};
+ghost use Rattle.std.specs.Prelude.{◌≡◌, ◌+◌, ◌-◌, ◌<◌, ◌≤◌, ◌↔◌, [], ◌++◌, length, take, min, IsOk, IsErr, IfOk, OnOk, OnErr};
+ghost use Rattle.plat_io.specs.Streams.{HasRisen, raised};
 
 use crate::faults::Failed;
 use crate::sinks::Sink;
@@ -118,6 +118,8 @@ impl Sink for QuietSink {
     ghost faults = { quiet_faults };
 
     fn write(&mut self, bytes: &[u8]) -> Result<usize, Failed>
+        ensures same { OnOk result (self.new.refused ≡ self.old.refused) }
+        ensures raised { OnErr result (self.new.refused ≡ raised self.old.refused) }
         ensures count { quiet_faults self.old ≤ quiet_faults self.new }
         ensures failed { OnErr result (HasRisen (quiet_faults self.old) (quiet_faults self.new)) }
         ensures full { IsErr result ↔ ((length self.old.bytes ≡ self.old.size) × (0 < length bytes.now)) }
