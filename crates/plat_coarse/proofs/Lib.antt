@@ -14,3 +14,4 @@ pub mod ReachLemmas
 pub mod GuestStateLemmas
 pub mod TurnLemmas
 pub mod StartLemmas
+pub mod TriedLemmas

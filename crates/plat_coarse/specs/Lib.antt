@@ -10,3 +10,4 @@ pub mod Reached
 pub mod CoarseSeen
 pub mod Acted
 pub mod Advanced
+pub mod Tried

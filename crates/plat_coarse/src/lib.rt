@@ -10,6 +10,8 @@ mod messages;
 mod pages;
 mod removals;
 mod spaces;
+#[cfg(test)]
+mod tests;
 mod translations;
 mod turns;
 
