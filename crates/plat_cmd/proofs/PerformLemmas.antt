@@ -1,6 +1,6 @@
 -- what a command does, told by its status
 use Rattle.std.proofs.Common.{◌≡◌, ◌≢◌, ◌⊎◌, inl, inr, ℕ, true, false, Bool, List, [], refl, sym, ap, subst, ◌∙◌, ⊎_elim, if◌then◌else◌}
-use Rattle.std.specs.Prelude.{Option, None, Some, IfSome, IsTrue, Result, Ok, Err}
+use Rattle.std.specs.Prelude.{Option, None, Some, IfSome, IsTrue, OnOk, Result, Ok, Err}
 use Rattle.std.proofs.lemmas.Bool.{true≢false}
 use Rattle.plat_base.specs.Machine.{Machine}
 use Rattle.plat_base.specs.FirstFault.{text_at}
@@ -49,6 +49,14 @@ written_by sink old new (Err e) bytes complete now other is adds = record {
 pub ended_by : (writing : Result (Unit {0}) WriteFault) (complete now : Status) → now ≡ status_after complete writing → IsOrWriteFault complete now
 ended_by (Ok u) complete now is = inl is
 ended_by (Err e) complete now is = inr is
+
+-- what holds of a whole writing holds where the status says that all was written
+pub when_done : (P : Type 0) (writing : Result (Unit {0}) WriteFault) (now : Status) → now ≡ status_after status.Done writing → OnOk writing P → now ≡ status.Done → P
+when_done P (Ok u) now is holds done = holds
+when_done P (Err e) now is holds done = absurd (differ (sym done ∙ is))
+  where
+    differ : status.Done ≡ status.WriteFault → ⊥
+    differ same = cc
 
 -- ---- the status of a run
 

@@ -85,10 +85,12 @@ pub record HasRun {K : Type 0} (sink : Ghosts K) (m : Machine) (old new : K) (no
   pub written : IsWritten sink old new now (report m kept (ends_of m))
   pub ended : IsOrWriteFault (status_of (ends_of m) false) now
 
--- the canonical text of m was written
+-- the canonical text of m was written; where all of it was, it is a text of m, and is read as m again
 pub record HasPrinted {K : Type 0} (sink : Ghosts K) (m : Machine) (old new : K) (now : Status) (kept : List Item) : Type 0 where
   pub written : IsWritten sink old new now (canon_text m)
   pub ended : IsOrWriteFault status.Done now
+  pub text : now ≡ status.Done → IsTextOf (canon_text m) m
+  pub read_again : now ≡ status.Done → text_at (canon_text m) ≡ Ok m
   pub history : kept ≡ []
 
 -- what a command does with the machine that it read

@@ -13,6 +13,7 @@ use std::alloc::Global;
 pub enum Stop {
     /// The text is none of a machine; this is its first fault.
     Refused(Refused),
+    /// The source failed.
     ReadFault,
     OutOfMemory,
 }
@@ -35,6 +36,7 @@ pub fn without_run(alloc: Global, status: Status) -> Outcome
     }
 }
 
+/// The status of a command that stopped so.
 pub fn stop_status(stop: Stop) -> Status
     ensures { result ≡ stop_status stop }
 {

@@ -1,3 +1,4 @@
+//! The law of good histories.
 ghost use Rattle.plat_base.specs.Histories.{IsOneHistory};
 ghost use Rattle.plat_base.specs.Rules.{Good};
 ghost use Rattle.plat_base.specs.Seen.{machine};

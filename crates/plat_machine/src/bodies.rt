@@ -1,3 +1,4 @@
+//! The lines of a guest while they are read.
 ghost use Rattle.std.specs.Prelude.{◌≡◌, ◌≤◌, bytes_eq, ◌<◌, ◌∷◌, ◌++◌, [], ℕ, false, OnOk, IfOk, IfErr, vec_len, length, map, IsTrue, List as Many};
 ghost use Rattle.std.specs.List.{list_any};
 ghost use Rattle.std.specs.Borrow.{Bor};
@@ -37,6 +38,7 @@ fn with_label(instr: Instr, label: u32) -> Instr
 }
 
 impl<'a> Body<'a> {
+    /// A guest without lines.
     pub fn new(alloc: Global) -> Body<'a>
         ensures drafts { result.drafts.items ≡ [] }
         ensures labels { result.labels.items ≡ [] }

@@ -1,3 +1,4 @@
+//! Guests of a machine text.
 ghost use Rattle.std.specs.Prelude.{◌≡◌, codes, []};
 ghost use Rattle.plat_base.specs.Machine.{program_seen, programs_seen};
 ghost use Rattle.plat_base.specs.Forms.{Reads, Gives, line_at};

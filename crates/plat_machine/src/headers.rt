@@ -1,3 +1,4 @@
+//! The lines before the distances of a machine text.
 ghost use Rattle.std.specs.Prelude.{◌≡◌, length, codes};
 ghost use Rattle.plat_base.specs.Machine.{turns_of};
 ghost use Rattle.plat_base.specs.Forms.{Reads, Gives, line_at, listed, number_in};

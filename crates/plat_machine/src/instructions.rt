@@ -1,3 +1,4 @@
+//! Lines of instructions.
 ghost use Rattle.std.specs.Prelude.{◌≡◌, ◌<◌, None, OnOk};
 ghost use Rattle.std.specs.List.{list_all};
 ghost use Rattle.plat_base.specs.Labels.{is_label_byte, is_label_name};

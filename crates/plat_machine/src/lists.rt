@@ -1,3 +1,4 @@
+//! The lines of distances, entries and starting values.
 ghost use Rattle.std.specs.Prelude.{◌≡◌};
 ghost use Rattle.std.specs.List.{list_any};
 ghost use Rattle.plat_base.specs.Machine.{same_nodes, same_place, same_word};

@@ -1,3 +1,4 @@
+//! The next line of a text that has words.
 ghost use Rattle.std.specs.Prelude.{◌≡◌, ◌+◌, ◌≤◌, ◌<◌, ◌^◌, ◌==◌, ℕ, length, position};
 ghost use Rattle.plat_base.specs.Lines.{words_of, uncommented};
 ghost use Rattle.plat_base.specs.Forms.{Reads, is_bad, row_of, rest_of};

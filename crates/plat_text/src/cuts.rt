@@ -1,3 +1,4 @@
+//! Where a text falls into lines, and a line into words.
 ghost use Rattle.std.specs.Prelude.{◌≡◌, ◌<◌, length, position, ◌==◌};
 ghost use Rattle.plat_base.specs.Lines.{lines_of, words_of, uncommented, is_hash};
 

@@ -1,3 +1,4 @@
+//! Lines that have words, read word by word.
 ghost use Rattle.std.specs.Prelude.{◌≡◌, ◌+◌, ◌<◌, ◌^◌, ◌==◌, Ok, length};
 ghost use Rattle.plat_base.specs.Lines.{number_of};
 ghost use Rattle.plat_base.specs.Forms.{Reads, first_word, refused, word_at, read_as, exactly, key, number_in, number_below, any_number, number, below, nothing};

@@ -1,3 +1,4 @@
+//! Texts read row by row, a row being a line that has words.
 ghost use Rattle.std.specs.Prelude.{◌≡◌, ◌+◌, ◌<◌, ◌≤◌, ◌^◌, Ok, length};
 ghost use Rattle.plat_base.specs.Forms.{Reads, spelled_size, first_row, word_ahead, row_at, word_at, opened, if_opened, over, row_length, rest_of};
 ghost use Rattle.plat_base.specs.Lines.{words_of};

@@ -1,3 +1,4 @@
+//! Iterators over the words of a line.
 ghost use Rattle.std.specs.Prelude.{◌≡◌, ◌+◌, ◌<◌, ◌^◌, ◌==◌, length, position, IsTrue, option_map, slice_get, not};
 ghost use Rattle.std.specs.Iterator.{YieldsFirstBy, item_count};
 ghost use Rattle.plat_base.specs.Lines.{is_space};
