@@ -1,8 +1,15 @@
 -- what a command does, told by its status
-use Rattle.std.proofs.Common.{◌≡◌, ◌≢◌, ◌⊎◌, inl, inr, ℕ, true, false, Bool, List, [], refl, sym, ap, subst, ◌∙◌, ⊎_elim, if◌then◌else◌}
-use Rattle.std.specs.Prelude.{Option, None, Some, IfSome, IsTrue, OnOk, Result, Ok, Err}
+use Rattle.std.proofs.Common.{◌≡◌, ◌≢◌, ◌⊎◌, inl, inr, ℕ, suc, ◌<◌, true, false, Bool, List, [], ◌∷◌, length, arith, refl, sym, ap, subst, ◌∙◌, ⊎_elim, if◌then◌else◌}
+use Rattle.std.specs.Prelude.{Option, None, Some, IfSome, IsTrue, OnOk, Result, Ok, Err, slice_index_or}
 use Rattle.std.proofs.lemmas.Bool.{true≢false}
-use Rattle.plat_base.specs.Machine.{Machine}
+use Rattle.std.specs.List.{list_any}
+use Rattle.plat_base.specs.Alike.{same_end}
+use Rattle.plat_base.specs.Coarse.{cut_at, ended_of}
+use Rattle.plat_base.specs.Grammar.{IsMachine}
+use Rattle.plat_base.specs.Machine.{Machine, is_machine}
+use Rattle.plat_base.specs.Verdicts.{policy_answer}
+use Rattle.plat_base.specs.declared.endings.End.{End}
+use Rattle.plat_laws.proofs.TurnLaws.{coarse_run_sound}
 use Rattle.plat_base.specs.FirstFault.{text_at}
 use Rattle.plat_base.specs.Statuses.{status_of, ends_as, is_silent, refusal_of}
 use Rattle.plat_base.specs.declared.endings.End.TheVariants as end
@@ -16,8 +23,8 @@ use Rattle.plat_io.specs.Streams.{HasRisen}
 use Rattle.plat_io.specs.declared.faults.WriteFault.{WriteFault}
 use Rattle.plat_io.specs.declared.sinks.Sink.{Ghosts}
 use Rattle.plat_io.specs.declared.sources.Source.{Ghosts as Reader}
-use Rattle.plat_cmd.specs.Promise.{IsWritten, IsOrWriteFault, HasRead, HasDone, HasRun, HasPrinted, IsToldAs, ends_of, may_end}
-use Rattle.plat_cmd.specs.Steps.{IsStop, HasStopped, Performs, status_after, stop_status}
+use Rattle.plat_cmd.specs.Promise.{IsWritten, IsOrWriteFault, HasRead, HasDone, IfTextOf, IsNoRefusal, IsFinished, EndsWell, IsQuiet, IsDoneWithMemory, ends_of, may_end}
+use Rattle.plat_cmd.specs.Steps.{IsStop, Performs, status_after, stop_status}
 use Rattle.plat_cmd.specs.declared.words.Command.{Command}
 use Rattle.plat_cmd.specs.declared.words.Command.TheVariants as command
 use Rattle.plat_cmd.specs.declared.words.Grain.TheVariants as grain
@@ -126,6 +133,45 @@ module _ {K : Type 0} (sink : Ghosts K) (m : Machine) (old new : K) (now : Statu
   done_has_written command.Check done = done.written.risen
   done_has_written (command.Sim grain.Coarse output.Report) done = done.written.risen
 
+-- ---- a run that ends well is done
+
+none_of : {X : Type 0} (p : X → Bool) (d : X) (xs : List X) → ((i : ℕ) → i < length xs → p (slice_index_or xs i d) ≡ false) → list_any p xs ≡ false
+none_of p d [] h = refl
+none_of p d (x ∷ xs) h = rw (h 0 (omega arith)) (none_of p d xs (λ i l. h (suc i) (omega arith)))
+
+not_spent : (e : End) → IsFinished e → same_end e end.Spent ≡ false
+not_spent end.Halted f = refl
+not_spent end.Trapped f = refl
+not_spent end.Spent f = absurd f
+not_spent end.NoFrames f = absurd f
+not_spent end.Cut f = absurd f
+
+not_starved : (e : End) → IsFinished e → same_end e end.NoFrames ≡ false
+not_starved end.Halted f = refl
+not_starved end.Trapped f = refl
+not_starved end.Spent f = absurd f
+not_starved end.NoFrames f = absurd f
+not_starved end.Cut f = absurd f
+
+done_status : (starved spent : Bool) → starved ≡ false → spent ≡ false → (if starved then status.NoFrames else if spent then status.Spent else status.Done) ≡ status.Done
+done_status true spent h k = absurd cc
+done_status false true h k = absurd cc
+done_status false false h k = refl
+
+-- where each processor halts or traps, the status of the run is done
+well_ended : (m : Machine) → IsTrue (is_machine m) → EndsWell (command.Sim grain.Coarse output.Report) m → status_of (ends_of m) false ≡ status.Done
+well_ended m limits well =
+    let count = (coarse_run_sound m (policy_answer m.policy) limits).count in
+    done_status (ends_as end.NoFrames (ends_of m)) (ends_as end.Spent (ends_of m))
+    (none_of (λ (x : Ended). same_end x.end end.NoFrames) (cut_at 0) (ends_of m) (λ q l. not_starved (ended_of (ends_of m) q).end (well q (omega (arith, count, l)))))
+    (none_of (λ (x : Ended). same_end x.end end.Spent) (cut_at 0) (ends_of m) (λ q l. not_spent (ended_of (ends_of m) q).end (well q (omega (arith, count, l)))))
+
+module _ {K : Type 0} (sink : Ghosts K) (m : Machine) (old new : K) (now : Status) (kept : List Item) (limits : IsTrue (is_machine m)) (quiet : IsQuiet (sink.faults old) (sink.faults new)) where
+  done_well : (c : Command) → HasDone c sink m old new now kept → EndsWell c m → now ≡ status.Done
+  done_well command.Check done well = ⊎_elim (λ is. is) (λ fault. absurd (quiet (done.written.risen fault))) done.ended
+  done_well (command.Sim grain.Coarse output.Report) done well =
+      ⊎_elim (λ is. is ∙ well_ended m limits well) (λ fault. absurd (quiet (done.written.risen fault))) done.ended
+
 -- ---- a command that stopped
 
 stop_is_silent : (s : Stop) → is_silent (stop_status s) ≡ true
@@ -167,6 +213,10 @@ true_or_false : (b : Bool) → b ≡ true → b ≡ false → ⊥
 true_or_false true h k = absurd cc
 true_or_false false h k = absurd cc
 
+told_of : (told : Option (List ℕ)) (P Q : Machine → Type 0) → ((m : Machine) → IsMachine m → P m → Q m) → IfTextOf told P → IfTextOf told Q
+told_of None P Q h holds = tt
+told_of (Some bytes) P Q h holds = λ m named text. h m named (holds m named text)
+
 module _ {S K : Type 0} (c : Command) (source : Reader S) (sink : Ghosts K) (before after : S) (old new : K) (now : Status) (kept : List Item) (p : Performs c source sink before after old new now kept) where
   pub performs_done : is_silent now ≡ false → HasRead (source.left before) (source.left after) (λ m. HasDone c sink m old new now kept)
   performs_done told = ⊎_elim (λ read. read) (λ stopped. absurd (true_or_false (is_silent now) (ap is_silent stopped.2.ended ∙ stop_is_silent stopped.0) told)) p.found
@@ -197,3 +247,13 @@ module _ {S K : Type 0} (c : Command) (source : Reader S) (sink : Ghosts K) (bef
   pub performs_nothing_kept : is_silent now ≡ true → kept ≡ []
   performs_nothing_kept silent =
       ⊎_elim (λ read. absurd (true_or_false (is_silent now) silent (done_is_told sink read.0 old new now kept c read.2))) (λ stopped. stopped.2.history) p.found
+
+  pub performs_complete : IfTextOf (source.left before) (λ m. EndsWell c m → IsQuiet (source.faults before) (source.faults after) → IsQuiet (sink.faults old) (sink.faults new) → IsDoneWithMemory now)
+  performs_complete = told_of (source.left before) (λ m. HasDone c sink m old new now kept ⊎ IsNoRefusal now)
+      (λ m. EndsWell c m → IsQuiet (source.faults before) (source.faults after) → IsQuiet (sink.faults old) (sink.faults new) → IsDoneWithMemory now) by p.accepted
+    where
+      by : (m : Machine) → IsMachine m → HasDone c sink m old new now kept ⊎ IsNoRefusal now
+          → EndsWell c m → IsQuiet (source.faults before) (source.faults after) → IsQuiet (sink.faults old) (sink.faults new) → IsDoneWithMemory now
+      by m named (inl done) well read wrote = inl (done_well sink m old new now kept named.limits wrote c done well)
+      by m named (inr (inl fault)) well read wrote = absurd (read (performs_read_fault fault))
+      by m named (inr (inr want)) well read wrote = inr want

@@ -1,16 +1,13 @@
 -- the choice of a schedule is that of the coarse run
 use Rattle.std.proofs.Common.{◌≡◌, ℕ, suc, ◌+◌, ◌*◌, List, sym, ap, subst, ◌∙◌, arith}
-use Rattle.std.specs.Prelude.{Option, Some}
-use Rattle.std.specs.Prelude.{IsTrue}
-use Rattle.plat_base.specs.Machine.{Machine, Turns, is_machine}
+use Rattle.std.specs.Prelude.{Some}
+use Rattle.plat_base.specs.Machine.{Machine, Turns}
 use Rattle.plat_base.specs.Coarse.{Coarse, turn}
-use Rattle.plat_base.specs.Schedule.{Chooser, Scheduled, choose, live_processors, with_choice, scheduled_turn, scheduled, coarse_run}
+use Rattle.plat_base.specs.Schedule.{Scheduled, choose, live_processors, with_choice, scheduled_turn, scheduled, coarse_run}
 use Rattle.plat_base.specs.Verdicts.{policy_answer}
 use Rattle.plat_base.specs.declared.endings.Ended.{Ended}
 use Rattle.plat_base.specs.declared.items.Item.{Item}
 use Rattle.plat_coarse.specs.CoarseSeen.{CoarseSeen}
-use Rattle.plat_laws.proofs.TurnLaws.{run_good, run_not_cut, run_no_frames}
-use Rattle.plat_cmd.specs.Promise.{history_of, ends_of}
 use Rattle.plat_sched.specs.Actors.{actors_of}
 use Rattle.plat_sched.specs.ScheduleSeen.{ScheduleSeen, choice, after_choice, actor_chosen}
 use Rattle.plat_sched.proofs.NextLemmas.{choice_is}

@@ -1,5 +1,5 @@
 -- what the commands promise
-use Rattle.std.specs.Prelude.{◌≡◌, ◌≢◌, ◌⊎◌, ℕ, ◌<◌, ◌≤◌, Bool, true, false, List, [], Option, IfSome, IsTrue, Result, Ok, Err}
+use Rattle.std.specs.Prelude.{◌≡◌, ◌≢◌, ◌⊎◌, ℕ, ◌<◌, ◌≤◌, Bool, true, false, List, [], Option, IfSome, IsTrue, Ok}
 use Rattle.plat_base.specs.Machine.{Machine, is_machine}
 use Rattle.plat_base.specs.Coarse.{ended_of}
 use Rattle.plat_base.specs.Schedule.{coarse_run}
@@ -13,6 +13,7 @@ use Rattle.plat_base.specs.Grammar.{IsMachine, IsTextOf}
 use Rattle.plat_base.specs.FirstFault.{text_at}
 use Rattle.plat_base.specs.declared.items.Item.{Item}
 use Rattle.plat_base.specs.declared.endings.Ended.{Ended}
+use Rattle.plat_base.specs.declared.endings.End.{End}
 use Rattle.plat_base.specs.declared.endings.End.TheVariants as end
 use Rattle.plat_base.specs.declared.statuses.Status.{Status}
 use Rattle.plat_base.specs.declared.statuses.Status.TheVariants as status
@@ -97,6 +98,27 @@ pub record HasPrinted {K : Type 0} (sink : Ghosts K) (m : Machine) (old new : K)
 abbrev pub HasDone : {K : Type 0} → Command → Ghosts K → Machine → K → K → Status → List Item → Type 0
 HasDone command.Check sink m old new now kept = HasPrinted sink m old new now kept
 HasDone (command.Sim grain.Coarse output.Report) sink m old new now kept = HasRun sink m old new now kept
+
+-- a processor halted or trapped
+abbrev pub IsFinished : End → Type 0
+IsFinished end.Halted = Unit {0}
+IsFinished end.Trapped = Unit {0}
+IsFinished end.Spent = ⊥
+IsFinished end.NoFrames = ⊥
+IsFinished end.Cut = ⊥
+
+-- the command comes to a good end with this machine: in a run each processor halts or traps
+abbrev pub EndsWell : Command → Machine → Type 0
+EndsWell command.Check m = Unit {0}
+EndsWell (command.Sim grain.Coarse output.Report) m = (q : ℕ) → q < m.nodes → IsFinished (ended_of (ends_of m) q).end
+
+-- a count of faults stayed as it was
+abbrev pub IsQuiet : ℕ → ℕ → Type 0
+IsQuiet before after = HasRisen before after → ⊥
+
+-- done, but for want of memory
+abbrev pub IsDoneWithMemory : Status → Type 0
+IsDoneWithMemory now = (now ≡ status.Done) ⊎ (now ≡ status.OutOfMemory)
 
 abbrev pub is_run : Command → Bool
 is_run command.Check = false

@@ -5,6 +5,8 @@ mod checks;
 mod outcomes;
 mod performs;
 mod readings;
+#[cfg(test)]
+mod run_tests;
 mod runs;
 mod sims;
 #[cfg(test)]

@@ -5,7 +5,7 @@ ghost use Rattle.plat_base.specs.Statuses.{is_silent, refusal_of};
 ghost use Rattle.plat_base.specs.declared.statuses.Status.TheVariants as statuses;
 ghost use Rattle.plat_io.specs.Streams.{HasRisen};
 ghost use Rattle.plat_cmd.specs.Commands.{read_of, texts_of};
-ghost use Rattle.plat_cmd.specs.Promise.{HasDone, HasRead, IfTextOf, IsNoRefusal, may_end};
+ghost use Rattle.plat_cmd.specs.Promise.{EndsWell, HasDone, HasRead, IfTextOf, IsDoneWithMemory, IsNoRefusal, IsQuiet, may_end};
 ghost use Rattle.plat_cmd.specs.declared.words.Command.TheVariants as commands;
 
 use crate::outcomes::{Outcome, without_run};
@@ -19,6 +19,7 @@ use std::alloc::Global;
 pub fn check<S: Source, K: Sink>(alloc: Global, source: &mut S, sink: &mut K) -> Outcome
     ensures done { is_silent result.status ≡ false → HasRead (S.left source.old) (S.left source.new) (λ m. HasDone commands.Check K.Sink m sink.old sink.new result.status result.kept.items) }
     ensures accepted { IfTextOf (S.left source.old) (λ m. HasDone commands.Check K.Sink m sink.old sink.new result.status result.kept.items ⊎ IsNoRefusal result.status) }
+    ensures complete { IfTextOf (S.left source.old) (λ m. EndsWell commands.Check m → IsQuiet (S.faults source.old) (S.faults source.new) → IsQuiet (K.faults sink.old) (K.faults sink.new) → IsDoneWithMemory result.status) }
     ensures ends { IsTrue (may_end commands.Check result.status) }
     ensures refused { IfSome (refusal_of result.status) (λ refused. IfSome (S.left source.old) (λ bytes. text_at bytes ≡ Err refused)) }
     ensures read_fault { result.status ≡ statuses.ReadFault → HasRisen (S.faults source.old) (S.faults source.new) }
@@ -41,6 +42,7 @@ pub fn sim<S: Source, K: Sink>(
 ) -> Outcome
     ensures done { is_silent result.status ≡ false → HasRead (S.left source.old) (S.left source.new) (λ m. HasDone (commands.Sim grain output) K.Sink m sink.old sink.new result.status result.kept.items) }
     ensures accepted { IfTextOf (S.left source.old) (λ m. HasDone (commands.Sim grain output) K.Sink m sink.old sink.new result.status result.kept.items ⊎ IsNoRefusal result.status) }
+    ensures complete { IfTextOf (S.left source.old) (λ m. EndsWell (commands.Sim grain output) m → IsQuiet (S.faults source.old) (S.faults source.new) → IsQuiet (K.faults sink.old) (K.faults sink.new) → IsDoneWithMemory result.status) }
     ensures ends { IsTrue (may_end (commands.Sim grain output) result.status) }
     ensures refused { IfSome (refusal_of result.status) (λ refused. IfSome (S.left source.old) (λ bytes. text_at bytes ≡ Err refused)) }
     ensures read_fault { result.status ≡ statuses.ReadFault → HasRisen (S.faults source.old) (S.faults source.new) }
@@ -61,6 +63,7 @@ pub fn platinum<S: Source, K: Sink>(
 ) -> Outcome
     ensures done { is_silent result.status ≡ false → IfOk (read_of (texts_of words.now)) (λ command. HasRead (S.left source.old) (S.left source.new) (λ m. HasDone command K.Sink m sink.old sink.new result.status result.kept.items)) }
     ensures accepted { IfOk (read_of (texts_of words.now)) (λ command. IfTextOf (S.left source.old) (λ m. HasDone command K.Sink m sink.old sink.new result.status result.kept.items ⊎ IsNoRefusal result.status)) }
+    ensures complete { IfOk (read_of (texts_of words.now)) (λ command. IfTextOf (S.left source.old) (λ m. EndsWell command m → IsQuiet (S.faults source.old) (S.faults source.new) → IsQuiet (K.faults sink.old) (K.faults sink.new) → IsDoneWithMemory result.status)) }
     ensures ends { IfOk (read_of (texts_of words.now)) (λ command. IsTrue (may_end command result.status)) }
     ensures bad_words { IfErr (read_of (texts_of words.now)) (λ _. result.status ≡ statuses.BadWords) }
     ensures unread { result.status ≡ statuses.BadWords → source.new ≡ source.old }

@@ -1,4 +1,4 @@
-use Rattle.std.proofs.Common.{◌≢◌, sym, ◌∙◌}
+use Rattle.std.proofs.Common.{◌∙◌}
 use Rattle.plat_base.specs.Canon.{canon_text}
 use Rattle.plat_base.specs.FirstFault.{text_at}
 use Rattle.plat_base.specs.Grammar.{IsTextOf}

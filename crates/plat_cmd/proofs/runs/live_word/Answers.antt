@@ -1,10 +1,10 @@
-use Rattle.std.proofs.Common.{◌≡◌, ◌≢◌, ◌<◌, ◌≤◌, ℕ, length, arith, below_more, sym, ap, subst, ◌∙◌}
+use Rattle.std.proofs.Common.{◌≡◌, ◌≢◌, ◌<◌, arith, below_more, sym, subst, ◌∙◌}
 use Rattle.plat_base.specs.Coarse.{is_live}
 use Rattle.plat_base.specs.Machine.{Machine}
 use Rattle.plat_base.specs.Schedule.{live_processors}
 use Rattle.plat_base.specs.Seen.{machine}
 use Rattle.plat_laws.proofs.Limits.{nodes-most}
-use Rattle.plat_sched.specs.Actors.{is_set, actors_of}
+use Rattle.plat_sched.specs.Actors.{actors_of}
 use Rattle.plat_sched.proofs.ActorsLemmas.{actors_are, is_set-with_same, is_set-with_other}
 use Rattle.plat_cmd.proofs.runs.live_word.Goals as goal
 use Rattle.plat_cmd.proofs.runs.live_word.Goals.{then-live, else-live}

@@ -1,12 +1,5 @@
-use Rattle.std.proofs.Common.{◌≡◌, true, ap, sym, ◌∙◌}
-use Rattle.std.specs.Prelude.{ℕ, List, Option, Some}
-use Rattle.plat_base.specs.Coarse.{is_live as is_live_of}
-use Rattle.plat_base.specs.Machine.{Turns}
-use Rattle.plat_base.specs.Schedule.{Chooser, Scheduled, choose, live_processors, with_choice}
-use Rattle.plat_base.specs.Verdicts.{policy_answer}
+use Rattle.std.proofs.Common.{sym, ◌∙◌}
 use Rattle.plat_laws.proofs.RunLaws.{choose-live}
-use Rattle.plat_sched.specs.ScheduleSeen.{choice, after_choice, actor_chosen}
-use Rattle.plat_sched.proofs.NextLemmas.{choice_is}
 use Rattle.plat_cmd.proofs.RunLemmas.{chosen_is, turned_is}
 use Rattle.plat_cmd.proofs.runs.next_turn.Goals as goal
 

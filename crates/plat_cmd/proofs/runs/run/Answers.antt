@@ -1,4 +1,4 @@
-use Rattle.std.proofs.Common.{◌≡◌, ℕ, ◌*◌, ap, ◌∙◌, arith}
+use Rattle.std.proofs.Common.{◌≡◌, ◌*◌, ap, ◌∙◌, arith}
 use Rattle.plat_base.specs.Coarse.{Coarse}
 use Rattle.plat_base.specs.Schedule.{Scheduled}
 use Rattle.plat_base.specs.Seen.{machine}

@@ -1,5 +1,5 @@
 use Rattle.std.proofs.Common.{◌≡◌}
-use Rattle.plat_base.specs.Schedule.{Scheduled, scheduled}
+use Rattle.plat_base.specs.Schedule.{scheduled}
 use Rattle.plat_base.specs.Seen.{machine}
 use Rattle.plat_base.specs.Verdicts.{policy_answer}
 use Rattle.plat_cmd.proofs.runs.run.Given as goal

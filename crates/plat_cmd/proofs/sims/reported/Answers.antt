@@ -1,5 +1,4 @@
-use Rattle.std.proofs.Common.{◌≡◌, ◌≢◌, ℕ, ◌<◌, false, ap, sym, subst, ◌∙◌, List}
-use Rattle.plat_base.specs.Coarse.{ended_of}
+use Rattle.std.proofs.Common.{false, ap, sym, subst, ◌∙◌, List}
 use Rattle.plat_base.specs.Histories.{IsOneHistory}
 use Rattle.plat_base.specs.Rules.{Good}
 use Rattle.plat_base.specs.Report.{report}
