@@ -1,5 +1,5 @@
 -- the ends of a guest, items that are none of a processor's, and when nothing is bad
-use Rattle.std.proofs.Common.{◌≡◌, ℕ, zero, suc, ◌+◌, ◌<◌, ◌≤◌, Bool, true, false, List, [], ◌∷◌, ◌++◌, length, Option, Some, None, refl, arith, add-one, add-zero, append_assoc, ap, if◌then◌else◌, ◌∙◌}
+use Rattle.std.proofs.Common.{◌≡◌, ℕ, zero, suc, ◌+◌, ◌<◌, ◌≤◌, Bool, true, false, List, [], ◌∷◌, ◌++◌, length, Option, Some, None, refl, arith, add-one, add-zero, append_assoc, if◌then◌else◌}
 use Rattle.std.specs.Prelude.{◌==◌, ◌&&◌, ◌||◌, not, nat_lt, ◌/◌, unwrap_or}
 use Rattle.std.specs.List.{fold, filter_map, cons_option, list_any, find, range_with_len}
 use Rattle.std.proofs.lemmas.List.{append-nil}
@@ -13,20 +13,19 @@ use Rattle.plat_base.specs.Done.{Accessed, Switched, value_of, values_of, done_o
 use Rattle.plat_base.specs.Held.{held, active, active_after, has_right}
 use Rattle.plat_base.specs.Coarse.{ended_of, is_live}
 use Rattle.plat_base.specs.Alike.{same_end}
-use Rattle.plat_base.specs.Rules.{stands, has_made, same_outcome, wants_right, wants_operation, is_cut_at, is_end, is_in_order, bad_at, bad_or, bad_rule, bad_after, bad_ends, first_bad}
+use Rattle.plat_base.specs.Rules.{stands, has_made, same_outcome, wants_right, wants_operation, is_end, is_in_order, bad_at, bad_or, bad_rule, bad_after, bad_ends, first_bad}
 use Rattle.plat_base.specs.declared.endings.End.{End}
 use Rattle.plat_base.specs.declared.endings.End.TheVariants as end
 use Rattle.plat_base.specs.declared.endings.Ended.{Ended}
 use Rattle.plat_base.specs.declared.statuses.Rule.{Rule}
 use Rattle.plat_base.specs.declared.statuses.Bad.{Bad}
-use Rattle.plat_base.specs.declared.guests.Want.{Want}
 use Rattle.plat_base.specs.declared.guests.Want.TheVariants as want
 use Rattle.plat_base.specs.declared.items.Item.{Item}
 use Rattle.plat_base.specs.declared.items.Item.TheVariants as item
 use Rattle.plat_base.specs.declared.items.Kind.{Kind}
 use Rattle.plat_laws.specs.Sound.{IsGuest}
 use Rattle.plat_laws.proofs.Limits.{and-left, and-right}
-use Rattle.plat_laws.proofs.GuestLaws.{fewer_turns, guest_run-next_same, values_of-none, operations_of-none, IsGuest-not_mine}
+use Rattle.plat_laws.proofs.GuestLaws.{fewer_turns, guest_run-next_same, IsGuest-not_mine}
 
 -- ---- how a run stands
 
@@ -122,43 +121,6 @@ pub is_in_order-live :
 is_in_order-live m items ends q h l g =
     is_in_order-from m items ends q l (rw (is_live-cut ends q h) (is_end-cut m items (ended_of ends q).turns q g))
 
--- ---- items that are none of a processor's
-
-wants_right-not_mine :
-    (m : Machine) (items more : List Item) (q : ℕ) (w : Want) → ((e : ℕ) → held m (items ++ more) q e ≡ held m items q e)
-    → wants_right m (items ++ more) q w ≡ wants_right m items q w
-wants_right-not_mine m items more q want.Local h = refl
-wants_right-not_mine m items more q (want.Access k sp a o) h = rw (h (unwrap_or (entry_at m sp (a / m.words)) 0))
-wants_right-not_mine m items more q (want.Switch s) h = refl
-wants_right-not_mine m items more q (want.Print v) h = refl
-wants_right-not_mine m items more q want.Halted h = refl
-wants_right-not_mine m items more q want.Trap h = refl
-
-pub is_end-not_mine :
-    (m : Machine) (items more : List Item) (q : ℕ) (end : End) (t : ℕ) → values_of q more ≡ [] → operations_of q more ≡ []
-    → ((e : ℕ) → held m (items ++ more) q e ≡ held m items q e) → is_end m (items ++ more) q end t ≡ is_end m items q end t
-is_end-not_mine m items more q end.Halted t v o h = rw (values_of-none q items more v, operations_of-none q items more o)
-is_end-not_mine m items more q end.Trapped t v o h = rw (values_of-none q items more v, operations_of-none q items more o)
-is_end-not_mine m items more q end.Spent t v o h = rw (values_of-none q items more v, operations_of-none q items more o)
-is_end-not_mine m items more q end.NoFrames zero v o h = refl
-is_end-not_mine m items more q end.NoFrames (suc t) v o h =
-    rw (
-      values_of-none q items more v,
-      operations_of-none q items more o,
-      wants_right-not_mine m items more q (want_of m q (guest_run m q (values_of q items) t).state) h,
-    )
-is_end-not_mine m items more q end.Cut zero v o h = rw (operations_of-none q items more o)
-is_end-not_mine m items more q end.Cut (suc t) v o h =
-    ap (λ vs. is_cut_at m (items ++ more) q (guest_run m q vs t) (guest_run m q vs (suc t)) t) (values_of-none q items more v)
-    ∙ rw (operations_of-none q items more o)
-
-pub is_in_order-not_mine :
-    (m : Machine) (items more : List Item) (ends ends_now : List Ended) (q : ℕ) → values_of q more ≡ [] → operations_of q more ≡ []
-    → ((e : ℕ) → held m (items ++ more) q e ≡ held m items q e) → ended_of ends_now q ≡ ended_of ends q
-    → is_in_order m (items ++ more) ends_now q ≡ is_in_order m items ends q
-is_in_order-not_mine m items more ends ends_now q v o h e =
-    rw (e, is_end-not_mine m items more q (ended_of ends q).end (ended_of ends q).turns v o h)
-
 -- ---- items of other actors
 
 -- an item of processor q
@@ -171,14 +133,6 @@ is_by q (item.Switch s) = s.actor == q
 or-none : (b c : Bool) → (b || c) ≡ false → (b ≡ false) × (c ≡ false)
 or-none true c h = absurd cc
 or-none false c h = (refl, h)
-
--- items that a step passes over leave a fold as it is
-fold-passed_over :
-    {A B : Type 0} (f : B → A → B) (p : A → Bool) (b : B) (xs : List A) → ((c : B) (x : A) → p x ≡ false → f c x ≡ c)
-    → list_any p xs ≡ false → fold f b xs ≡ b
-fold-passed_over f p b [] k h = refl
-fold-passed_over f p b (x ∷ xs) k h =
-    let e = or-none (p x) (list_any p xs) h in rw (k b x e.0) (fold-passed_over f p b xs k e.1)
 
 filter_map-passed_over :
     {A B : Type 0} (f : A → Option B) (p : A → Bool) (xs : List A) → ((x : A) → p x ≡ false → f x ≡ None) → list_any p xs ≡ false

@@ -2,7 +2,6 @@
 use Rattle.std.proofs.Common.{◌≡◌, ℕ, zero, suc, ◌+◌, ◌<◌, ◌≤◌, Bool, true, false, List, [], ◌∷◌, ◌++◌, length, Option, Some, None, refl, arith, add-one, add-zero, add-suc, append_assoc, sym, ◌-◌, if◌then◌else◌, get_or, ap}
 use Rattle.std.specs.Prelude.{slice_get, slice_index_or, is_some, ◌/◌, ◌%◌, ◌==◌, ◌&&◌, unwrap_or}
 use Rattle.std.specs.List.{position_from}
-use Rattle.std.proofs.lemmas.Option.{slice_get_within}
 use Rattle.std.proofs.lemmas.List.{append-nil, length-append}
 use Rattle.std.proofs.lemmas.List.Elements.{filter_map-append}
 use Rattle.std.proofs.lemmas.Bool.Decides.{nat_tests}
@@ -114,40 +113,6 @@ more_values m q vs ws (suc t) h =
     let r = guest_run m q vs t in
     let e = fewer_turns m q vs t h
     in rw (more_values m q vs ws t e.0) (guest_more-more_values m q vs ws r r.outcome (omega arith))
-
--- ---- used
-
-value_for-used : (k : Kind) (vs : List ℕ) (used v : ℕ) → value_for k vs used ≡ Some v → used ≤ length vs → used + values_taken k ≤ length vs
-value_for-used kind.Load vs used v h l = omega (arith, slice_get_within vs used v h)
-value_for-used kind.Store vs used v h l = omega arith
-value_for-used kind.Add vs used v h l = omega (arith, slice_get_within vs used v h)
-
-with_access-used :
-    (m : Machine) (q : ℕ) (vs : List ℕ) (r : GuestRun) (reach : Reach) (v : Option ℕ) → value_for reach.kind vs r.used ≡ v
-    → r.used ≤ length vs → (with_access m q r reach v).used ≤ length vs
-with_access-used m q vs r reach None e l = l
-with_access-used m q vs r reach (Some v) e l = value_for-used reach.kind vs r.used v e l
-
-guest_does-used :
-    (m : Machine) (q : ℕ) (vs : List ℕ) (r : GuestRun) (w : Want) → r.used ≤ length vs → (guest_does m q vs r w).used ≤ length vs
-guest_does-used m q vs r want.Local l = omega arith
-guest_does-used m q vs r (want.Access k sp a o) l =
-    with_access-used m q vs r (reach_of m k sp a o) (value_for k vs r.used) refl l
-guest_does-used m q vs r (want.Switch s) l = omega arith
-guest_does-used m q vs r (want.Print v) l = omega arith
-guest_does-used m q vs r want.Halted l = l
-guest_does-used m q vs r want.Trap l = l
-
-guest_more-used :
-    (m : Machine) (q : ℕ) (vs : List ℕ) (r : GuestRun) (o : Outcome) → r.used ≤ length vs → (guest_more m q vs r o).used ≤ length vs
-guest_more-used m q vs r GoesOn l = guest_does-used m q vs r (want_of m q r.state) l
-guest_more-used m q vs r HasHalted l = l
-guest_more-used m q vs r HasTrapped l = l
-
-pub used_bound : (m : Machine) (q : ℕ) (vs : List ℕ) (t : ℕ) → (guest_run m q vs t).used ≤ length vs
-used_bound m q vs zero = omega arith
-used_bound m q vs (suc t) =
-    let r = guest_run m q vs t in guest_more-used m q vs r r.outcome (used_bound m q vs t)
 
 -- ---- more turns
 
@@ -548,10 +513,3 @@ reach_of-page m s k sp a o e h r = rw r.page (page_of-below m e h r.below)
 
 pub reach_of-word : (m : Machine) (k : Kind) (sp a o : ℕ) → IsWithinLimits m → (reach_of m k sp a o).word < m.words
 reach_of-word m k sp a o h = omega (arith, words-some m h)
-
--- ---- the space that a switch wants
-
-access_or_trap-switch :
-    (b : Bool) (k : Kind) (sp a o next : ℕ) → (if b then want.Access k sp a o else want.Trap) ≡ want.Switch next → ⊥
-access_or_trap-switch true k sp a o next h = cc
-access_or_trap-switch false k sp a o next h = cc

@@ -1,9 +1,8 @@
 -- what each item of a history leaves alone, and what it changes: of an append, of applied messages, and of one more item
-use Rattle.std.specs.Prelude.{◌≡◌, ◌≢◌, ◌≤◌, ◌<◌, ℕ, zero, suc, ◌+◌, ◌/◌, ◌==◌, nat_lt, nat_le, ◌&&◌, ◌||◌, not, if◌then◌else◌, Bool, true, false, List, [], ◌∷◌, ◌++◌, length, Option, Some, None, unwrap_or}
-use Rattle.std.proofs.Common.{refl, ap, sym, ◌∙◌, arith, ⊎_elim}
-use Rattle.std.specs.List.{fold, list_any, list_all, filter, filter_map, find, range_with_len}
-use Rattle.std.proofs.lemmas.Bool.{and_parts, or_parts, or_cases, not-true, eq-eqb, ne_eqb, cond-true, cond-false}
-use Rattle.std.proofs.lemmas.Bool.Decides.{nat_tests}
+use Rattle.std.specs.Prelude.{◌≡◌, ◌≢◌, ℕ, zero, suc, ◌+◌, ◌/◌, ◌==◌, nat_lt, nat_le, ◌&&◌, ◌||◌, not, if◌then◌else◌, Bool, true, false, List, [], ◌∷◌, ◌++◌, length, Option, Some, None, unwrap_or}
+use Rattle.std.proofs.Common.{refl, ap, sym, ◌∙◌, arith}
+use Rattle.std.specs.List.{fold, list_any, list_all, filter_map}
+use Rattle.std.proofs.lemmas.Bool.{and_parts, or_parts, not-true, eq-eqb, ne_eqb, cond-true, cond-false}
 use Rattle.std.proofs.lemmas.Grind.{fold-append}
 use Rattle.std.proofs.lemmas.List.{append_assoc, append-nil}
 use Rattle.std.proofs.lemmas.List.Folds.{list_any-append}
@@ -14,7 +13,7 @@ use Rattle.plat_base.specs.Pages.{entry_at, page_of, program_of, initial_value}
 use Rattle.plat_base.specs.Flat.{writes_word, written, flat_value, flat_writes}
 use Rattle.plat_base.specs.Directories.{change_of, empty_dir, dir_after, dir_of, seq_after, seq_of, last_after, last_of}
 use Rattle.plat_base.specs.Held.{kept_of, granted_to, held_after, held, active_after, active, has_right, is_later_change, later}
-use Rattle.plat_base.specs.Done.{value_of, values_of, Done, Switched, done_of, operations_of, are_done}
+use Rattle.plat_base.specs.Done.{value_of, values_of, Done, done_of, operations_of, are_done}
 use Rattle.plat_base.specs.GuestRun.{guest_run, want_of, GoesOn, HasHalted, HasTrapped}
 use Rattle.plat_base.specs.Coarse.{is_owed_for, by_other, ended_of}
 use Rattle.plat_base.specs.Rules.{wants_right, wants_operation, stands, is_end, is_in_order, bad_rule, bad_at, bad_or, bad_after}
@@ -89,57 +88,6 @@ same_number n x y = cond-true (n == n) x y (eq-eqb n n refl)
 pub other_number : {A : Type 0} (n k : ℕ) (x y : A) → n ≢ k → (if n == k then x else y) ≡ y
 other_number n k x y h = cond-false (n == k) x y (ne_eqb n k h)
 
--- a range has each of its numbers, and no other
-
-pub find-range_none : (p : ℕ → Bool) (a n i : ℕ) → find p (range_with_len a n) ≡ None → a ≤ i → i < a + n → p i ≡ false
-find-range_none p a zero i h l u = absurd (omega arith)
-find-range_none p a (suc n) i h l u = grind (arith, nat_tests, find-range_none p (a + 1) n i)
-
-pub find-range_some : (p : ℕ → Bool) (a n i : ℕ) → find p (range_with_len a n) ≡ Some i → (a ≤ i) × (i < a + n) × (p i ≡ true)
-find-range_some p a zero i h = absurd cc
-find-range_some p a (suc n) i h = grind (arith, nat_tests, find-range_some p (a + 1) n i)
-
-pub list_any-range_at : (p : ℕ → Bool) (a n i : ℕ) → a ≤ i → i < a + n → p i ≡ true → list_any p (range_with_len a n) ≡ true
-list_any-range_at p a zero i l u h = absurd (omega arith)
-list_any-range_at p a (suc n) i l u h = grind (arith, nat_tests, list_any-range_at p (a + 1) n i)
-
-pub list_any-range_false : (p : ℕ → Bool) (a n i : ℕ) → list_any p (range_with_len a n) ≡ false → a ≤ i → i < a + n → p i ≡ false
-list_any-range_false p a zero i h l u = absurd (omega arith)
-list_any-range_false p a (suc n) i h l u = grind (arith, nat_tests, list_any-range_false p (a + 1) n i)
-
-pub list_any-range_some : (p : ℕ → Bool) (a n : ℕ) → list_any p (range_with_len a n) ≡ true → (i : ℕ) × (a ≤ i) × (i < a + n) × (p i ≡ true)
-list_any-range_some p a zero h = absurd cc
-list_any-range_some p a (suc n) h =
-    ⊎_elim (λ k. (a, omega arith, omega arith, k))
-    (λ k. let w = list_any-range_some p (a + 1) n k in (w.0, omega (arith, w.1), omega (arith, w.2), w.3))
-    (or_cases (p a) (list_any p (range_with_len (a + 1) n)) h)
-
--- a list in which each number below k stands has k elements or more
-
-without : ℕ → List ℕ → List ℕ
-without k xs = filter (λ x. not (x == k)) xs
-
-length-without : (k : ℕ) (xs : List ℕ) → length (without k xs) ≤ length xs
-unfolding without
-length-without k [] = omega arith
-length-without k (x ∷ xs) = grind (arith, nat_tests, length-without k xs)
-
-length-without_one : (k : ℕ) (xs : List ℕ) → list_any (λ x. x == k) xs ≡ true → length (without k xs) < length xs
-unfolding without
-length-without_one k [] h = absurd cc
-length-without_one k (x ∷ xs) h = grind (arith, nat_tests, length-without k xs, length-without_one k xs)
-
-list_any-without : (k i : ℕ) (xs : List ℕ) → i < k → list_any (λ x. x == i) xs ≡ true → list_any (λ x. x == i) (without k xs) ≡ true
-unfolding without
-list_any-without k i [] l h = h
-list_any-without k i (x ∷ xs) l h = grind (arith, nat_tests, list_any-without k i xs l)
-
-pub pigeon : (k : ℕ) (xs : List ℕ) → ((i : ℕ) → i < k → list_any (λ x. x == i) xs ≡ true) → k ≤ length xs
-pigeon zero xs h = omega arith
-pigeon (suc k) xs h =
-    let fewer = pigeon k (without k xs) (λ i l. list_any-without k i xs l (h i (omega arith)))
-    in let less = length-without_one k xs (h k (omega arith)) in omega arith
-
 -- ---- an append: each fold goes on, each test is an or
 
 pub dir_of-append : (xs ys : List Item) (page : ℕ) → dir_of (xs ++ ys) page ≡ fold (λ d i. dir_after d (change_of page i)) (dir_of xs page) ys
@@ -147,9 +95,6 @@ dir_of-append xs ys page = fold-append (λ d i. dir_after d (change_of page i)) 
 
 pub seq_of-append : (xs ys : List Item) (page : ℕ) → seq_of (xs ++ ys) page ≡ fold (λ n i. seq_after n (change_of page i)) (seq_of xs page) ys
 seq_of-append xs ys page = fold-append (λ n i. seq_after n (change_of page i)) 0 xs ys
-
-pub last_of-append : (xs ys : List Item) (page : ℕ) → last_of (xs ++ ys) page ≡ fold (λ last i. last_after last (change_of page i)) (last_of xs page) ys
-last_of-append xs ys page = fold-append (λ last i. last_after last (change_of page i)) None xs ys
 
 pub held-append : (m : Machine) (xs ys : List Item) (q entry : ℕ) → held m (xs ++ ys) q entry ≡ fold (held_after m q entry) (held m xs q entry) ys
 held-append m xs ys q entry = fold-append (held_after m q entry) None xs ys
@@ -277,13 +222,6 @@ seq_of-change xs c page = seq_of-append xs (item.Change c ∷ []) page ∙ taken
     taken true = refl
     taken false = refl
 
-pub last_of-change : (xs : List Item) (c : Change) (page : ℕ) → last_of (xs ++ item.Change c ∷ []) page ≡ if c.page == page then last_after (last_of xs page) (Some c) else last_of xs page
-last_of-change xs c page = last_of-append xs (item.Change c ∷ []) page ∙ taken (c.page == page)
-  where
-    taken : (b : Bool) → last_after (last_of xs page) (if b then Some c else None) ≡ if b then last_after (last_of xs page) (Some c) else last_of xs page
-    taken true = refl
-    taken false = refl
-
 pub held-change : (m : Machine) (xs : List Item) (c : Change) (q entry : ℕ) → held m (xs ++ item.Change c ∷ []) q entry ≡ held_after m q entry (held m xs q entry) (item.Change c)
 held-change m xs c q entry = held-append m xs (item.Change c ∷ []) q entry
 
@@ -292,10 +230,6 @@ later-change test xs c page seq = list_any-push (is_later_change test page seq) 
 
 pub by_other-change : (test : Removed → Bool) (xs : List Item) (c : Change) (q page seq : ℕ) → by_other test (xs ++ item.Change c ∷ []) q page seq ≡ (by_other test xs q page seq || (c.page == page && nat_lt seq c.seq && test c.removed && not (c.actor == q)))
 by_other-change test xs c q page seq = list_any-push (is_owed_for test q page seq) xs (item.Change c)
-
--- of the change's own page
-
--- of another page
 
 -- of the actor and of another processor
 
@@ -334,9 +268,6 @@ dir_of-access xs a page = dir_of-append xs (item.Access a ∷ []) page
 pub seq_of-access : (xs : List Item) (a : Access) (page : ℕ) → seq_of (xs ++ item.Access a ∷ []) page ≡ seq_of xs page
 seq_of-access xs a page = seq_of-append xs (item.Access a ∷ []) page
 
-pub last_of-access : (xs : List Item) (a : Access) (page : ℕ) → last_of (xs ++ item.Access a ∷ []) page ≡ last_of xs page
-last_of-access xs a page = last_of-append xs (item.Access a ∷ []) page
-
 pub held-access : (m : Machine) (xs : List Item) (a : Access) (q entry : ℕ) → held m (xs ++ item.Access a ∷ []) q entry ≡ held m xs q entry
 held-access m xs a q entry = held-append m xs (item.Access a ∷ []) q entry
 
@@ -357,9 +288,6 @@ dir_of-switch xs s page = dir_of-append xs (item.Switch s ∷ []) page
 pub seq_of-switch : (xs : List Item) (s : Switch) (page : ℕ) → seq_of (xs ++ item.Switch s ∷ []) page ≡ seq_of xs page
 seq_of-switch xs s page = seq_of-append xs (item.Switch s ∷ []) page
 
-pub last_of-switch : (xs : List Item) (s : Switch) (page : ℕ) → last_of (xs ++ item.Switch s ∷ []) page ≡ last_of xs page
-last_of-switch xs s page = last_of-append xs (item.Switch s ∷ []) page
-
 pub held-switch : (m : Machine) (xs : List Item) (s : Switch) (q entry : ℕ) → held m (xs ++ item.Switch s ∷ []) q entry ≡ held m xs q entry
 held-switch m xs s q entry = held-append m xs (item.Switch s ∷ []) q entry
 
@@ -369,27 +297,11 @@ later-switch test xs s page seq = list_any-push (is_later_change test page seq) 
 pub by_other-switch : (test : Removed → Bool) (xs : List Item) (s : Switch) (q page seq : ℕ) → by_other test (xs ++ item.Switch s ∷ []) q page seq ≡ by_other test xs q page seq
 by_other-switch test xs s q page seq = list_any-push (is_owed_for test q page seq) xs (item.Switch s) ∙ or-false (by_other test xs q page seq)
 
-pub flat_value-switch : (m : Machine) (xs : List Item) (s : Switch) (page word : ℕ) → flat_value m (xs ++ item.Switch s ∷ []) page word ≡ flat_value m xs page word
-flat_value-switch m xs s page word = flat_value-append m xs (item.Switch s ∷ []) page word
-
-pub flat_writes-switch : (xs : List Item) (s : Switch) (page word : ℕ) → flat_writes (xs ++ item.Switch s ∷ []) page word ≡ flat_writes xs page word
-flat_writes-switch xs s page word = flat_writes-append xs (item.Switch s ∷ []) page word
-
-pub values_of-switch : (q : ℕ) (xs : List Item) (s : Switch) → values_of q (xs ++ item.Switch s ∷ []) ≡ values_of q xs
-values_of-switch q xs s = values_of-append q xs (item.Switch s ∷ []) ∙ append-nil (values_of q xs)
-
 pub active-switch : (m : Machine) (xs : List Item) (s : Switch) (q : ℕ) → active m (xs ++ item.Switch s ∷ []) q ≡ if s.actor == q then s.space else active m xs q
 active-switch m xs s q = active-append m xs (item.Switch s ∷ []) q
 
 pub active-switch_own : (m : Machine) (xs : List Item) (s : Switch) → active m (xs ++ item.Switch s ∷ []) s.actor ≡ s.space
 active-switch_own m xs s = active-switch m xs s s.actor ∙ same_number s.actor s.space (active m xs s.actor)
-
-pub operations_of-switch_own : (xs : List Item) (s : Switch) → operations_of s.actor (xs ++ item.Switch s ∷ []) ≡ operations_of s.actor xs ++ Switched s.space ∷ []
-operations_of-switch_own xs s = operations_of-append s.actor xs (item.Switch s ∷ []) ∙ rw (eq-eqb s.actor s.actor refl) refl
-
-pub operations_of-switch_other : (q : ℕ) (xs : List Item) (s : Switch) → s.actor ≢ q → operations_of q (xs ++ item.Switch s ∷ []) ≡ operations_of q xs
-operations_of-switch_other q xs s h =
-    operations_of-append q xs (item.Switch s ∷ []) ∙ rw (ne_eqb s.actor q h) (append-nil (operations_of q xs))
 
 -- ---- items of others: what one processor holds, is and did stays
 

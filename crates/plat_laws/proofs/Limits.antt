@@ -1,12 +1,10 @@
 -- what the limits of a machine say, one by one
 use Rattle.std.proofs.Common.{◌≡◌, ℕ, zero, suc, ◌<◌, ◌≤◌, Bool, true, false, List, [], ◌∷◌, length, get_or, refl, arith}
-use Rattle.std.specs.Prelude.{Some, slice_get, ◌&&◌}
+use Rattle.std.specs.Prelude.{◌&&◌}
 use Rattle.std.specs.List.{list_all}
 use Rattle.std.proofs.lemmas.Bool.Decides.{nat_tests}
-use Rattle.std.proofs.lemmas.Option.{get_or_from_slice_get, slice_get_within}
-use Rattle.plat_base.specs.Machine.{Machine, Program, limits, is_within, is_page_size, is_policy, is_entry, is_program, is_instr}
-use Rattle.plat_base.specs.Pages.{page_of, space_of, no_entry, program_of, no_program}
-use Rattle.plat_base.specs.declared.guests.Instr.{Instr}
+use Rattle.plat_base.specs.Machine.{Machine, limits, is_within, is_page_size, is_policy, is_entry}
+use Rattle.plat_base.specs.Pages.{page_of, space_of, no_entry}
 use Rattle.plat_base.specs.declared.policies.PolicyKind.TheVariants as policy
 use Rattle.plat_laws.specs.Sound.{IsWithinLimits}
 
@@ -45,9 +43,6 @@ frames-most m h = is_within-high 1 64 m.frames (limit_at m 1 h (omega arith))
 is_page_size-some : (n : ℕ) → is_page_size n ≡ true → 0 < n
 is_page_size-some n h = grind (arith, nat_tests)
 
-is_page_size-most : (n : ℕ) → is_page_size n ≡ true → n ≤ 64
-is_page_size-most n h = grind (arith, nat_tests)
-
 pub words-some : (m : Machine) → IsWithinLimits m → 0 < m.words
 words-some m h = is_page_size-some m.words (limit_at m 2 h (omega arith))
 
@@ -83,37 +78,3 @@ entry-limits m e h l =
 
 pub page_of-below : (m : Machine) (e : ℕ) → IsWithinLimits m → e < length m.entries → page_of m e < m.pages
 page_of-below m e h l = (entry-limits m e h l).2
-
-pub space_of-most : (m : Machine) (e : ℕ) → IsWithinLimits m → e < length m.entries → space_of m e ≤ 7
-space_of-most m e h l = (entry-limits m e h l).0
-
--- ---- programs
-
--- at a default that passes, also past the end
-list_all-get_or_any :
-    {A : Type 0} (p : A → Bool) (xs : List A) (i : ℕ) (d : A) → p d ≡ true → list_all p xs ≡ true → p (get_or xs i d) ≡ true
-list_all-get_or_any p [] i d k h = k
-list_all-get_or_any p (x ∷ xs) zero d k h = and-left (p x) (list_all p xs) h
-list_all-get_or_any p (x ∷ xs) (suc i) d k h = list_all-get_or_any p xs i d k (and-right (p x) (list_all p xs) h)
-
-pub program-limits : (m : Machine) (q : ℕ) → IsWithinLimits m → is_program (program_of m q) ≡ true
-program-limits m q h = list_all-get_or_any is_program m.guests q no_program refl (limit_at m 14 h (omega arith))
-
-program-parts :
-    (p : Program) → is_program p ≡ true
-    → (p.space ≤ 7) × (length p.code ≤ 4096) × (length p.labels ≤ 256) × (list_all (is_instr (length p.labels)) p.code ≡ true)
-program-parts p h = grind (arith, nat_tests)
-
-slice_get-is_instr :
-    (labels : ℕ) (code : List Instr) (i : ℕ) (x : Instr) → list_all (is_instr labels) code ≡ true → slice_get code i ≡ Some x
-    → is_instr labels x ≡ true
-slice_get-is_instr labels code i x h e =
-    rw (get_or_from_slice_get code i x x e) at (list_all-get_or (is_instr labels) code i x h (slice_get_within code i x e))
-
--- an instruction of guest q is within the limits of an instruction
-pub instr-limits :
-    (m : Machine) (q at : ℕ) (x : Instr) → IsWithinLimits m → slice_get (program_of m q).code at ≡ Some x
-    → is_instr (length (program_of m q).labels) x ≡ true
-instr-limits m q at x h e =
-    let p = program_of m q
-    in slice_get-is_instr (length p.labels) p.code at x (program-parts p (program-limits m q h)).3 e

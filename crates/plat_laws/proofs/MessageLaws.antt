@@ -13,15 +13,15 @@ use Rattle.std.proofs.lemmas.List.{append_assoc}
 use Rattle.plat_base.specs.Verdicts.{Answer}
 use Rattle.plat_base.specs.Machine.{Machine}
 use Rattle.plat_base.specs.Pages.{page_of, space_of, entries_of_space}
-use Rattle.plat_base.specs.Directories.{dir_of, seq_of, last_after, last_of}
+use Rattle.plat_base.specs.Directories.{dir_of, seq_of}
 use Rattle.plat_base.specs.Flat.{flat_value, flat_writes}
-use Rattle.plat_base.specs.Done.{Switched, values_of, operations_of}
+use Rattle.plat_base.specs.Done.{values_of, operations_of}
 use Rattle.plat_base.specs.Held.{kept_of, told, granted_to, held_after, held, active, later, removes_all, removes_writes}
 use Rattle.plat_base.specs.Coarse.{Coarse, is_live, by_other, owed_for, owed, message_of, removes_some, is_target, interrupt_of, interrupts, activation_of, activation, switch_items, access_by, cause_of, change_by, grant_of, fault_items}
 use Rattle.plat_base.specs.GuestRun.{Reach}
 use Rattle.plat_base.specs.declared.policies.Decision.{Decision}
 use Rattle.plat_base.specs.Rules.{may_apply, is_answered, is_switch_next, next_operation, is_ordered_switch, unless, bad_after, bad_at}
-use Rattle.plat_laws.proofs.ItemLaws.{or-false, same_number, other_number, held-append, is_applied, all_applied, dir_of-applied, seq_of-applied, last_of-applied, active-applied, flat_value-applied, flat_writes-applied, later-applied, by_other-applied, values_of-applied, operations_of-applied, dir_of-change, seq_of-change, last_of-change, later-change, by_other-change, active-change, flat_value-change, flat_writes-change, values_of-change, operations_of-change, held-change_own, held-change_other, dir_of-switch, seq_of-switch, last_of-switch, held-switch, active-switch, active-switch_own, later-switch, by_other-switch, flat_value-switch, flat_writes-switch, values_of-switch, operations_of-switch_own, operations_of-switch_other, is_by, held-not_mine, bad_after-append}
+use Rattle.plat_laws.proofs.ItemLaws.{or-false, same_number, other_number, held-append, is_applied, all_applied, dir_of-applied, seq_of-applied, active-applied, flat_value-applied, flat_writes-applied, later-applied, by_other-applied, values_of-applied, operations_of-applied, dir_of-change, seq_of-change, later-change, by_other-change, active-change, flat_value-change, flat_writes-change, values_of-change, operations_of-change, held-change_own, held-change_other, dir_of-switch, seq_of-switch, held-switch, active-switch, active-switch_own, later-switch, by_other-switch, is_by, held-not_mine, bad_after-append}
 use Rattle.plat_base.specs.declared.items.Removed.{Removed}
 use Rattle.plat_base.specs.declared.items.Message.{Message}
 use Rattle.plat_base.specs.declared.items.Moment.TheVariants as moment
@@ -248,11 +248,6 @@ module _ (m : Machine) (s : Coarse) (c : Change) where
       at_posted (λ xs. seq_of xs page) m s c (if c.page == page then seq_of s.history page + 1 else seq_of s.history page)
       (seq_of-change (s.history ++ sent m s c) c page ∙ rw (seq_of-applied s.history (sent m s c) page sent-applied) refl)
 
-  pub last_of-posted : (page : ℕ) → last_of (posted m s c) page ≡ if c.page == page then last_after (last_of s.history page) (Some c) else last_of s.history page
-  last_of-posted page =
-      at_posted (λ xs. last_of xs page) m s c (if c.page == page then last_after (last_of s.history page) (Some c) else last_of s.history page)
-      (last_of-change (s.history ++ sent m s c) c page ∙ rw (last_of-applied s.history (sent m s c) page sent-applied) refl)
-
   pub later-posted : (test : Removed → Bool) (page seq : ℕ) → later test (posted m s c) page seq ≡ (later test s.history page seq || (c.page == page && nat_lt seq c.seq && test c.removed))
   later-posted test page seq =
       at_posted (λ xs. later test xs page seq) m s c (later test s.history page seq || (c.page == page && nat_lt seq c.seq && test c.removed))
@@ -326,14 +321,6 @@ module _ (m : Machine) (s : Coarse) (c : Change) where
   held-posted_other r e h k =
       at_posted (λ xs. held m xs r e) m s c (if hit m s c.actor c.page c.removed r e then told (message_of c.removed) (held m s.history r e) else held m s.history r e)
       (held-change_other m (s.history ++ sent m s c) c r e (λ same. h (sym same)) ∙ held-interrupts m s c.actor c.page c.removed r e k)
-
-  pub held-posted : (r e : ℕ) → e < length m.entries → held m (posted m s c) r e ≡ if r == c.actor then granted_to e c.seq c.granted (if page_of m e == c.page then kept_of c.removed (held m s.history r e) else held m s.history r e) else if hit m s c.actor c.page c.removed r e then told (message_of c.removed) (held m s.history r e) else held m s.history r e
-  held-posted r e k =
-      cond_both (r == c.actor) (granted_to e c.seq c.granted (if page_of m e == c.page then kept_of c.removed (held m s.history r e) else held m s.history r e))
-      (if hit m s c.actor c.page c.removed r e then told (message_of c.removed) (held m s.history r e) else held m s.history r e)
-      (λ t. held m (posted m s c) r e ≡ t)
-      (λ same. rw (eqb-true r c.actor same) (held-posted_own e))
-      (λ other. held-posted_other r e (eqb-false r c.actor other) k)
 
   -- no item of another processor that is not live
 
@@ -521,12 +508,6 @@ module _ (m : Machine) (xs : List Item) (q space : ℕ) where
       (seq_of-applied (xs ++ item.Switch (switch_of q space) ∷ []) (activations m xs q space) page (activations-applied m xs q space)
       ∙ seq_of-switch xs (switch_of q space) page)
 
-  pub last_of-switch_items : (page : ℕ) → last_of (xs ++ switch_items m xs q space) page ≡ last_of xs page
-  last_of-switch_items page =
-      at_switched (λ ys. last_of ys page) m xs q space (last_of xs page)
-      (last_of-applied (xs ++ item.Switch (switch_of q space) ∷ []) (activations m xs q space) page (activations-applied m xs q space)
-      ∙ last_of-switch xs (switch_of q space) page)
-
   pub later-switch_items : (test : Removed → Bool) (page seq : ℕ) → later test (xs ++ switch_items m xs q space) page seq ≡ later test xs page seq
   later-switch_items test page seq =
       at_switched (λ ys. later test ys page seq) m xs q space (later test xs page seq)
@@ -538,33 +519,3 @@ module _ (m : Machine) (xs : List Item) (q space : ℕ) where
       at_switched (λ ys. by_other test ys r page seq) m xs q space (by_other test xs r page seq)
       (by_other-applied test (xs ++ item.Switch (switch_of q space) ∷ []) (activations m xs q space) r page seq (activations-applied m xs q space)
       ∙ by_other-switch test xs (switch_of q space) r page seq)
-
-  pub flat_value-switch_items : (page word : ℕ) → flat_value m (xs ++ switch_items m xs q space) page word ≡ flat_value m xs page word
-  flat_value-switch_items page word =
-      at_switched (λ ys. flat_value m ys page word) m xs q space (flat_value m xs page word)
-      (flat_value-applied m (xs ++ item.Switch (switch_of q space) ∷ []) (activations m xs q space) page word (activations-applied m xs q space)
-      ∙ flat_value-switch m xs (switch_of q space) page word)
-
-  pub flat_writes-switch_items : (page word : ℕ) → flat_writes (xs ++ switch_items m xs q space) page word ≡ flat_writes xs page word
-  flat_writes-switch_items page word =
-      at_switched (λ ys. flat_writes ys page word) m xs q space (flat_writes xs page word)
-      (flat_writes-applied (xs ++ item.Switch (switch_of q space) ∷ []) (activations m xs q space) page word (activations-applied m xs q space)
-      ∙ flat_writes-switch xs (switch_of q space) page word)
-
-  pub values_of-switch_items : (r : ℕ) → values_of r (xs ++ switch_items m xs q space) ≡ values_of r xs
-  values_of-switch_items r =
-      at_switched (values_of r) m xs q space (values_of r xs)
-      (values_of-applied r (xs ++ item.Switch (switch_of q space) ∷ []) (activations m xs q space) (activations-applied m xs q space)
-      ∙ values_of-switch r xs (switch_of q space))
-
-  pub operations_of-switch_items_own : operations_of q (xs ++ switch_items m xs q space) ≡ operations_of q xs ++ Switched space ∷ []
-  operations_of-switch_items_own =
-      at_switched (operations_of q) m xs q space (operations_of q xs ++ Switched space ∷ [])
-      (operations_of-applied q (xs ++ item.Switch (switch_of q space) ∷ []) (activations m xs q space) (activations-applied m xs q space)
-      ∙ operations_of-switch_own xs (switch_of q space))
-
-  pub operations_of-switch_items_other : (r : ℕ) → q ≢ r → operations_of r (xs ++ switch_items m xs q space) ≡ operations_of r xs
-  operations_of-switch_items_other r h =
-      at_switched (operations_of r) m xs q space (operations_of r xs)
-      (operations_of-applied r (xs ++ item.Switch (switch_of q space) ∷ []) (activations m xs q space) (activations-applied m xs q space)
-      ∙ operations_of-switch_other r xs (switch_of q space) h)

@@ -19,10 +19,6 @@ list_any_range-true : (test : ℕ → Bool) (a k : ℕ) → list_any test (range
 list_any_range-true test a zero h = absurd cc
 list_any_range-true test a (suc k) h = grind (arith, nat_tests, list_any_range-true test (a + 1) k)
 
-list_any_range-false : (test : ℕ → Bool) (a k i : ℕ) → list_any test (range_with_len a k) ≡ false → a ≤ i → i < a + k → test i ≡ false
-list_any_range-false test a zero i h l u = absurd (omega arith)
-list_any_range-false test a (suc k) i h l u = grind (arith, nat_tests, list_any_range-false test (a + 1) k i)
-
 filter_map_range-none : {X : Type 0} (f : ℕ → Option X) (a k i : ℕ) → filter_map f (range_with_len a k) ≡ [] → a ≤ i → i < a + k → f i ≡ None
 filter_map_range-none f a zero i h l u = absurd (omega arith)
 filter_map_range-none f a (suc k) i h l u = grind (arith, nat_tests, filter_map_range-none f (a + 1) k i)
@@ -37,9 +33,6 @@ find_numbers-some test k i h = let r = find_range-some test 0 k i h in (omega ar
 
 pub list_any_numbers-true : (test : ℕ → Bool) (k : ℕ) → list_any test (numbers k) ≡ true → (i : ℕ) × (i < k) × (test i ≡ true)
 list_any_numbers-true test k h = let r = list_any_range-true test 0 k h in (r.0, omega arith, r.3)
-
-pub list_any_numbers-false : (test : ℕ → Bool) (k i : ℕ) → list_any test (numbers k) ≡ false → i < k → test i ≡ false
-list_any_numbers-false test k i h l = list_any_range-false test 0 k i h (omega arith) (omega arith)
 
 pub filter_map_numbers-none : {X : Type 0} (f : ℕ → Option X) (k i : ℕ) → filter_map f (numbers k) ≡ [] → i < k → f i ≡ None
 filter_map_numbers-none f k i h l = filter_map_range-none f 0 k i h (omega arith) (omega arith)
