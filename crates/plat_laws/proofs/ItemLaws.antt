@@ -96,6 +96,9 @@ dir_of-append xs ys page = fold-append (λ d i. dir_after d (change_of page i)) 
 pub seq_of-append : (xs ys : List Item) (page : ℕ) → seq_of (xs ++ ys) page ≡ fold (λ n i. seq_after n (change_of page i)) (seq_of xs page) ys
 seq_of-append xs ys page = fold-append (λ n i. seq_after n (change_of page i)) 0 xs ys
 
+pub last_of-append : (xs ys : List Item) (page : ℕ) → last_of (xs ++ ys) page ≡ fold (λ last i. last_after last (change_of page i)) (last_of xs page) ys
+last_of-append xs ys page = fold-append (λ last i. last_after last (change_of page i)) None xs ys
+
 pub held-append : (m : Machine) (xs ys : List Item) (q entry : ℕ) → held m (xs ++ ys) q entry ≡ fold (held_after m q entry) (held m xs q entry) ys
 held-append m xs ys q entry = fold-append (held_after m q entry) None xs ys
 
@@ -268,6 +271,9 @@ dir_of-access xs a page = dir_of-append xs (item.Access a ∷ []) page
 pub seq_of-access : (xs : List Item) (a : Access) (page : ℕ) → seq_of (xs ++ item.Access a ∷ []) page ≡ seq_of xs page
 seq_of-access xs a page = seq_of-append xs (item.Access a ∷ []) page
 
+pub last_of-access : (xs : List Item) (a : Access) (page : ℕ) → last_of (xs ++ item.Access a ∷ []) page ≡ last_of xs page
+last_of-access xs a page = last_of-append xs (item.Access a ∷ []) page
+
 pub held-access : (m : Machine) (xs : List Item) (a : Access) (q entry : ℕ) → held m (xs ++ item.Access a ∷ []) q entry ≡ held m xs q entry
 held-access m xs a q entry = held-append m xs (item.Access a ∷ []) q entry
 
@@ -288,6 +294,9 @@ dir_of-switch xs s page = dir_of-append xs (item.Switch s ∷ []) page
 pub seq_of-switch : (xs : List Item) (s : Switch) (page : ℕ) → seq_of (xs ++ item.Switch s ∷ []) page ≡ seq_of xs page
 seq_of-switch xs s page = seq_of-append xs (item.Switch s ∷ []) page
 
+pub last_of-switch : (xs : List Item) (s : Switch) (page : ℕ) → last_of (xs ++ item.Switch s ∷ []) page ≡ last_of xs page
+last_of-switch xs s page = last_of-append xs (item.Switch s ∷ []) page
+
 pub held-switch : (m : Machine) (xs : List Item) (s : Switch) (q entry : ℕ) → held m (xs ++ item.Switch s ∷ []) q entry ≡ held m xs q entry
 held-switch m xs s q entry = held-append m xs (item.Switch s ∷ []) q entry
 
@@ -296,6 +305,12 @@ later-switch test xs s page seq = list_any-push (is_later_change test page seq) 
 
 pub by_other-switch : (test : Removed → Bool) (xs : List Item) (s : Switch) (q page seq : ℕ) → by_other test (xs ++ item.Switch s ∷ []) q page seq ≡ by_other test xs q page seq
 by_other-switch test xs s q page seq = list_any-push (is_owed_for test q page seq) xs (item.Switch s) ∙ or-false (by_other test xs q page seq)
+
+pub flat_value-switch : (m : Machine) (xs : List Item) (s : Switch) (page word : ℕ) → flat_value m (xs ++ item.Switch s ∷ []) page word ≡ flat_value m xs page word
+flat_value-switch m xs s page word = flat_value-append m xs (item.Switch s ∷ []) page word
+
+pub flat_writes-switch : (xs : List Item) (s : Switch) (page word : ℕ) → flat_writes (xs ++ item.Switch s ∷ []) page word ≡ flat_writes xs page word
+flat_writes-switch xs s page word = flat_writes-append xs (item.Switch s ∷ []) page word
 
 pub active-switch : (m : Machine) (xs : List Item) (s : Switch) (q : ℕ) → active m (xs ++ item.Switch s ∷ []) q ≡ if s.actor == q then s.space else active m xs q
 active-switch m xs s q = active-append m xs (item.Switch s ∷ []) q

@@ -13,7 +13,7 @@ use crate::tokens::Token;
 use plat_base::{Refused, Why};
 use std::marker::Model;
 
-/// The rows of a text that are still to read. After an `Err` of any of its calls there is nothing more to read.
+/// The rows of a text that are still to read. After an `Err` of any of its calls a text has its first fault, and nothing more is read of it.
 #[derive(Debug, Drop)]
 pub struct Rows<'a> {
     given: u64,
