@@ -7,6 +7,7 @@ use faults::{Fault, fault_of, number_of};
 use plat_base::Status;
 use plat_cmd::platinum;
 use plat_io::{StdSink, StdSource};
+use std::io::{BufWriter, Write};
 use std::process::ExitCode;
 use std::{env, io};
 
@@ -15,6 +16,19 @@ fn status_of_words(error: io::ErrorKind) -> Status {
     match error {
         io::ErrorKind::InvalidData => Status::BadWords,
         _ => Status::OutOfMemory,
+    }
+}
+
+/// The status once the buffer was written too: a fault takes the place of a status with which something was written.
+fn status_after(status: Status, flushed: io::Result<()>) -> Status {
+    let has_written = matches!(
+        status,
+        Status::Done | Status::NoFrames | Status::Spent | Status::EventLimit
+    );
+    if has_written && flushed.is_err() {
+        Status::WriteFault
+    } else {
+        status
     }
 }
 
@@ -34,9 +48,13 @@ fn status_of(rt: &HostRuntime) -> Status {
     else {
         return Status::OutOfMemory;
     };
+    let Ok(mut writer) = BufWriter::new(rt.alloc(), io::writer(rt)) else {
+        return Status::OutOfMemory;
+    };
     let mut source = StdSource::new(rt.reader());
-    let mut sink = StdSink::new(io::writer(rt));
-    platinum(rt.alloc(), words.as_slice(), &mut source, &mut sink).status
+    let mut sink = StdSink::new(&mut writer);
+    let status = platinum(rt.alloc(), words.as_slice(), &mut source, &mut sink).status;
+    status_after(status, writer.flush())
 }
 
 fn main(rt: HostRuntime) -> ExitCode {
