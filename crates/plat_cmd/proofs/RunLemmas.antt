@@ -1,6 +1,6 @@
 -- the choice of a schedule is that of the coarse run
-use Rattle.std.proofs.Common.{◌≡◌, ℕ, suc, ◌+◌, ◌*◌, List, sym, ap, subst, ◌∙◌, arith}
-use Rattle.std.specs.Prelude.{Some}
+use Rattle.std.proofs.Common.{◌≡◌, ℕ, zero, suc, ◌+◌, ◌-◌, ◌*◌, ◌≤◌, List, sym, ap, subst, ◌∙◌, arith}
+use Rattle.std.specs.Prelude.{None, Some}
 use Rattle.plat_base.specs.Machine.{Machine, Turns}
 use Rattle.plat_base.specs.Coarse.{Coarse, turn}
 use Rattle.plat_base.specs.Schedule.{Scheduled, choose, live_processors, with_choice, scheduled_turn, scheduled, coarse_run}
@@ -39,6 +39,36 @@ next_is m n x y k same before turned =
     turned
     ∙ (ap (λ (i : Machine). scheduled_turn i (policy_answer i.policy) x) same ∙ ap (scheduled_turn m (policy_answer m.policy)) before
     ∙ ap (scheduled m (policy_answer m.policy)) (sym more))
+
+pub made_is : (m n : Machine) (x : Scheduled) (turns : ℕ) → n ≡ m → turns ≡ m.nodes * m.budget → x ≡ scheduled n (policy_answer n.policy) turns → x.coarse ≡ coarse_run m (policy_answer m.policy)
+made_is m n x turns same all made =
+    ap (λ (s : Scheduled). s.coarse) (made ∙ ap (λ (i : Machine). scheduled i (policy_answer i.policy) turns) same) ∙ run_is m turns all
+
+module _ (m : Machine) where
+  abbrev after_turns : ℕ → Scheduled
+  after_turns k = scheduled m (policy_answer m.policy) k
+
+  -- where nobody is chosen after some turns, nothing changes any more
+  stays : (k j : ℕ) → choose m.schedule (live_processors m (after_turns k).coarse) (after_turns k).chooser ≡ None → after_turns (k + j) ≡ after_turns k
+  stays k zero none = ap after_turns (omega arith)
+  stays k (suc j) none =
+      let more : k + suc j ≡ suc (k + j) = omega arith in
+      ap after_turns more ∙ (ap (scheduled_turn m (policy_answer m.policy)) (stays k j none) ∙ ap (with_choice m (policy_answer m.policy) (after_turns k)) none)
+
+-- a run that nobody goes on with is as it would be after all turns
+pub over_is : (m n : Machine) (x y : Scheduled) (k turns : ℕ) → n ≡ m → x ≡ scheduled m (policy_answer m.policy) k → k ≤ turns
+    → choose n.schedule (live_processors n x.coarse) x.chooser ≡ None → y ≡ scheduled_turn n (policy_answer n.policy) x
+    → y ≡ scheduled m (policy_answer m.policy) turns
+over_is m n x y k turns same before within none turned =
+    let here : choose m.schedule (live_processors m x.coarse) x.chooser ≡ None =
+    subst (λ (i : Machine). choose i.schedule (live_processors i x.coarse) x.chooser ≡ None) same none in
+    let there : choose m.schedule (live_processors m (scheduled m (policy_answer m.policy) k).coarse) (scheduled m (policy_answer m.policy) k).chooser ≡ None =
+    subst (λ (z : Scheduled). choose m.schedule (live_processors m z.coarse) z.chooser ≡ None) before here in
+    let all : k + (turns - k) ≡ turns = omega (arith, within) in
+    turned
+    ∙ (ap (λ (i : Machine). scheduled_turn i (policy_answer i.policy) x) same
+    ∙ (ap (with_choice m (policy_answer m.policy) x) here
+    ∙ (before ∙ (sym (stays m k (turns - k) there) ∙ ap (scheduled m (policy_answer m.policy)) all))))
 
 -- what holds of a history and ends holds of equal ones
 pub same_items : (P : List Item → List Ended → Type 0) (is js : List Item) (es fs : List Ended) → is ≡ js → es ≡ fs → P js fs → P is es
