@@ -2,18 +2,18 @@
 #![tactic(auto)]
 
 mod checks;
+mod commands;
 mod outcomes;
 mod performs;
 mod readings;
 #[cfg(test)]
 mod run_tests;
 mod runs;
-mod sims;
+mod simulations;
 #[cfg(test)]
 mod tests;
-mod tops;
 mod words;
 
+pub use commands::{check, platinum, sim};
 pub use outcomes::{Outcome, Stop};
-pub use tops::{check, platinum, sim};
 pub use words::{Command, Grain, Output, WordsFault, read_words};

@@ -8,7 +8,7 @@ ghost use Rattle.plat_cmd.specs.declared.outcomes.Stop.TheVariants as stops;
 use crate::checks::print;
 use crate::outcomes::{Outcome, stop_status, without_run};
 use crate::readings::read_machine;
-use crate::sims::simulate;
+use crate::simulations::simulate;
 use crate::words::{Command, Grain, Output};
 use plat_base::Config;
 use plat_io::{Sink, Source};

@@ -15,16 +15,16 @@ use Rattle.plat_cmd.specs.Promise.{history_of, ends_of, IsWritten}
 use Rattle.plat_cmd.specs.Steps.{status_after}
 use Rattle.plat_cmd.proofs.PerformLemmas.{written_by, ended_by, no_write_fault}
 use Rattle.plat_cmd.proofs.RunLemmas.{same_items}
-use Rattle.plat_cmd.proofs.sims.reported.Goals as goal
+use Rattle.plat_cmd.proofs.simulations.reported.Goals as goal
 
--- src/sims.rt:44:9
+-- src/simulations.rt:44:9
 pub report-written-requires-clause-good : goal.report-written-requires-clause-good
 report-written-requires-clause-good g c =
     let m = machine c.args.made.finished.cfg in
     same_items (λ is es. Good m (policy_answer m.policy) is es) c.as_slice.result.now (history_of m) c.as_slice-2.result.now (ends_of m)
     (c.as_slice.ensures ∙ c.requires.items) (c.as_slice-2.ensures ∙ c.requires.ends) (run_good m (policy_answer m.policy) c.args.made.finished.cfg.limits)
 
--- src/sims.rt:37:1
+-- src/simulations.rt:37:1
 pub returns : goal.returns
 returns g c =
     let m = machine c.args.made.finished.cfg in
