@@ -3,4 +3,3 @@ pub mod CopiesLemmas
 pub mod NameLemmas
 pub mod LimitLemmas
 pub mod RoomLemmas
-pub mod Rows

@@ -6,9 +6,11 @@ use Rattle.std.specs.List.{list_all}
 use Rattle.std.proofs.lemmas.Bool.Decides.{nat_tests}
 use Rattle.plat_base.specs.Machine.{Machine, is_page_size, is_policy, is_schedule, is_distance, is_entry, is_init, is_instr, is_program, limits, is_machine, Program, program_seen, programs_seen, same_nodes, same_place, same_word, all_differ}
 use Rattle.plat_base.specs.Seen.{machine}
-use Rattle.plat_base.specs.Pages.{no_entry, no_program, program_of, page_of, space_of, initial_value}
+use Rattle.plat_base.specs.declared.limits.TheConstants.{SPACES}
+use Rattle.plat_base.specs.Pages.{no_program, program_of, initial_value}
 use Rattle.plat_base.specs.declared.configs.Config.{Config}
 use Rattle.plat_base.specs.declared.policies.PolicyKind.TheVariants as policy
+use Rattle.plat_base.specs.declared.configs.Entry.{Entry}
 use Rattle.plat_base.specs.declared.configs.Init.{Init}
 use Rattle.plat_base.specs.declared.guests.Instr.{Instr}
 use Rattle.plat_base.specs.declared.guests.GuestText.{GuestText}
@@ -103,15 +105,12 @@ period_most t1 t2 h = grind (arith, nat_tests)
 pub at_program : (m : Machine) (q : ℕ) → IsTrue (is_machine m) → IsTrue (is_program (program_of m q))
 at_program m q h = holds_or is_program m.guests q no_program (limits_of m h).guests refl
 
-pub at_entry : (m : Machine) (e : ℕ) → IsTrue (is_machine m) → IsTrue (is_entry m.pages (slice_index_or m.entries e no_entry))
-at_entry m e h =
-    let l : Limits m = limits_of m h in holds_or (is_entry m.pages) m.entries e no_entry l.entries (grind (arith, nat_tests, l.pages_least))
+-- an entry's page and space
+pub page_below : (m : Machine) (e : ℕ) (d : Entry) → IsTrue (is_machine m) → e < length m.entries → (get_or m.entries e d).page < m.pages
+page_below m e d h l = let within = holds_at (is_entry m.pages) m.entries e d (limits_of m h).entries l in grind (arith, nat_tests, within)
 
-pub page_of-below : (m : Machine) (e : ℕ) → IsTrue (is_machine m) → page_of m e < m.pages
-page_of-below m e h = let entry = at_entry m e h in grind (arith, nat_tests, entry)
-
-pub space_of-most : (m : Machine) (e : ℕ) → IsTrue (is_machine m) → space_of m e ≤ 7
-space_of-most m e h = let entry = at_entry m e h in grind (arith, nat_tests, entry)
+pub space_below : (m : Machine) (e : ℕ) (d : Entry) → IsTrue (is_machine m) → e < length m.entries → (get_or m.entries e d).space < SPACES
+space_below m e d h l = let within = holds_at (is_entry m.pages) m.entries e d (limits_of m h).entries l in grind (arith, nat_tests, within)
 
 is_instr-at : (labels : ℕ) (code : List Instr) (at : ℕ) (i : Instr) → IsTrue (list_all (is_instr labels) code) → slice_get code at ≡ Some i → IsTrue (is_instr labels i)
 is_instr-at labels [] at i h e = absurd cc

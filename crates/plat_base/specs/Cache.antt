@@ -1,5 +1,5 @@
 -- hits and misses of each processor's cache of translations, by its own items
-use Rattle.std.specs.Prelude.{ℕ, ◌+◌, ◌/◌, ◌%◌, ◌==◌, ◌&&◌, ◌||◌, not, if◌then◌else◌, Bool, false, List, map, Option, Some, None, unwrap_or, replicate, slice_index_or, slice_set}
+use Rattle.std.specs.Prelude.{ℕ, ◌+◌, ◌/◌, ◌%◌, ◌==◌, ◌&&◌, ◌||◌, not, if◌then◌else◌, Bool, false, List, map, Option, Some, None, replicate, slice_index_or, slice_set}
 use Rattle.std.specs.List.{fold}
 use Rattle.plat_base.specs.Machine.{Machine}
 use Rattle.plat_base.specs.Pages.{entry_at, page_of}
@@ -45,6 +45,11 @@ accessed entry vpage writes c =
       misses = c.misses + 1;
     }
 
+-- an access through an entry; one without an entry is none of the cache's
+abbrev pub accessed_through : Option ℕ → (vpage : ℕ) → Bool → Cache → Cache
+accessed_through None vpage writes c = c
+accessed_through (Some entry) vpage writes c = accessed entry vpage writes c
+
 abbrev pub without_entry : ℕ → Option Place → Option Place
 without_entry entry None = None
 without_entry entry (Some p) = if p.entry == entry then None else Some p
@@ -59,7 +64,7 @@ removes_any c = removes_all c.removed || removes_writes c.removed
 -- the cache of processor q after an item
 abbrev pub cache_after : Machine → ℕ → Cache → Item → Cache
 cache_after m q c (item.Access a) =
-    if a.actor == q then accessed (unwrap_or (entry_at m a.space (a.addr / m.words)) 0) (a.addr / m.words) (is_write a.kind) c else c
+    if a.actor == q then accessed_through (entry_at m a.space (a.addr / m.words)) (a.addr / m.words) (is_write a.kind) c else c
 cache_after m q c (item.Change x) = if x.actor == q && removes_any x then with_places c (map (without_page m x.page) c.places) else c
 cache_after m q c (item.Applied x) = if x.actor == q then with_places c (map (without_entry x.entry) c.places) else c
 cache_after m q c (item.Switch s) = if s.actor == q then with_places c no_places else c

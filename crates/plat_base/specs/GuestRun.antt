@@ -1,8 +1,7 @@
 -- the run of one guest on the values that its loads and fetch-and-adds get
 use Rattle.std.specs.Prelude.{ℕ, zero, suc, ◌+◌, ◌-◌, ◌*◌, ◌/◌, ◌%◌, ◌^◌, ◌==◌, nat_lt, bit_and, if◌then◌else◌, List, [], ◌∷◌, ◌++◌, Option, Some, None, is_some, replicate, slice_get, slice_index, slice_index_or, slice_set}
 use Rattle.plat_base.specs.Machine.{Machine, Program}
-use Rattle.plat_base.specs.Pages.{program_of, entry_at, page_of}
-use Rattle.std.specs.Prelude.{unwrap_or}
+use Rattle.plat_base.specs.Pages.{program_of, entry_at, page_of, entry_reached}
 use Rattle.plat_base.specs.declared.guests.Instr.{Instr}
 use Rattle.plat_base.specs.declared.guests.Instr.TheVariants as instr
 use Rattle.plat_base.specs.declared.guests.Label.{Label}
@@ -158,7 +157,7 @@ reach_of m kind space addr operand = record {
   kind = kind;
   space = space;
   addr = addr;
-  page = page_of m (unwrap_or (entry_at m space (addr / m.words)) 0);
+  page = page_of m (entry_reached m space addr);
   word = addr % m.words;
   operand = operand;
 }

@@ -57,6 +57,11 @@ held_after m q entry t (item.Switch s) = t
 abbrev pub held : Machine → List Item → (q entry : ℕ) → Option Translation
 held m items q entry = fold (held_after m q entry) None items
 
+-- the translation that processor q holds through an entry, if there is an entry
+abbrev pub held_through : Machine → List Item → ℕ → Option ℕ → Option Translation
+held_through m items q None = None
+held_through m items q (Some entry) = held m items q entry
+
 abbrev pub active_after : ℕ → ℕ → Item → ℕ
 active_after q space (item.Access a) = space
 active_after q space (item.Change c) = space

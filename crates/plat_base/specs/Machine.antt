@@ -2,6 +2,8 @@
 use Rattle.std.specs.Prelude.{ℕ, Bool, true, not, ◌&&◌, ◌==◌, nat_le, nat_lt, List, [], ◌∷◌, length, Option, Some, None}
 use Rattle.std.specs.List.{list_all, list_any}
 use Rattle.plat_base.specs.Roomy.{Roomy}
+use Rattle.plat_base.specs.Labels.{is_label_name}
+use Rattle.plat_base.specs.declared.limits.TheConstants.{MODULES, FRAMES, PAGES, SPACES, VIRTUAL_PAGES, REGISTERS, BUDGET, INSTRUCTIONS, LABELS, LISTED}
 use Rattle.plat_base.specs.declared.policies.PolicyKind.{PolicyKind}
 use Rattle.plat_base.specs.declared.policies.PolicyKind.TheVariants as policy
 use Rattle.plat_base.specs.declared.configs.Plan.{Plan}
@@ -90,19 +92,19 @@ is_policy (policy.Platinum t1 t2) = nat_le t1 1000000 && is_within 64 1000000 t2
 abbrev pub is_schedule : ℕ → Turns → Bool
 is_schedule nodes robin = true
 is_schedule nodes (random a b) = is_number a && is_number b
-is_schedule nodes (listed actors) = is_within 1 4096 (length actors) && list_all (λ a. nat_le a nodes) actors
+is_schedule nodes (listed actors) = is_within 1 LISTED (length actors) && list_all (λ a. nat_le a nodes) actors
 
 abbrev pub is_distance : ℕ → Distance → Bool
 is_distance nodes d = nat_lt d.a nodes && nat_lt d.b nodes && not (d.a == d.b) && is_within 1 1000 d.d
 
 abbrev pub is_entry : ℕ → Entry → Bool
-is_entry pages e = nat_le e.space 7 && nat_le e.vpage 63 && nat_lt e.page pages
+is_entry pages e = nat_lt e.space SPACES && nat_lt e.vpage VIRTUAL_PAGES && nat_lt e.page pages
 
 abbrev pub is_init : ℕ → ℕ → Init → Bool
 is_init pages words i = nat_lt i.page pages && nat_lt i.word words && is_number i.value
 
 abbrev pub is_register : ℕ → Bool
-is_register r = nat_lt r 16
+is_register r = nat_lt r REGISTERS
 
 abbrev pub is_index : Option ℕ → Bool
 is_index None = true
@@ -120,7 +122,7 @@ is_instr labels (Shr d a b) = is_register d && is_register a && is_register b
 is_instr labels (Load d k i) = is_register d && is_number k && is_index i
 is_instr labels (Store s k i) = is_register s && is_number k && is_index i
 is_instr labels (Fadd d s k i) = is_register d && is_register s && is_number k && is_index i
-is_instr labels (Switch s) = nat_le s 7
+is_instr labels (Switch s) = nat_lt s SPACES
 is_instr labels (Print s) = is_register s
 is_instr labels (Jump l) = nat_lt l labels
 is_instr labels (Zero a l) = is_register a && nat_lt l labels
@@ -149,19 +151,23 @@ abbrev pub labels_rise : ℕ → ℕ → List Label → Bool
 labels_rise low high [] = true
 labels_rise low high (l ∷ ls) = is_within low high l.at && labels_rise l.at high ls
 
+-- a label's name is spelled as a name
+abbrev pub is_spelled : Label → Bool
+is_spelled l = is_label_name l.name
+
 abbrev pub is_program : Program → Bool
 is_program p =
-    nat_le p.space 7 && nat_le (length p.code) 4096 && nat_le (length p.labels) 256 && list_all (is_instr (length p.labels)) p.code
-    && labels_rise 0 (length p.code) p.labels && all_differ same_name p.labels
+    nat_lt p.space SPACES && nat_le (length p.code) INSTRUCTIONS && nat_le (length p.labels) LABELS && list_all (is_instr (length p.labels)) p.code
+    && labels_rise 0 (length p.code) p.labels && list_all is_spelled p.labels && all_differ same_name p.labels
 
 abbrev pub limits : Machine → List Bool
 limits m =
-    is_within 1 8 m.nodes
-    ∷ is_within 1 64 m.frames
+    is_within 1 MODULES m.nodes
+    ∷ is_within 1 FRAMES m.frames
     ∷ is_page_size m.words
-    ∷ is_within 1 64 m.pages
+    ∷ is_within 1 PAGES m.pages
     ∷ is_policy m.policy
-    ∷ is_within 1 65536 m.budget
+    ∷ is_within 1 BUDGET m.budget
     ∷ is_schedule m.nodes m.schedule
     ∷ list_all (is_distance m.nodes) m.distances
     ∷ all_differ same_nodes m.distances

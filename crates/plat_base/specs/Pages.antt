@@ -1,8 +1,9 @@
 -- what a machine says of its pages: entries, distances, starting values
-use Rattle.std.specs.Prelude.{ℕ, ◌&&◌, ◌==◌, if◌then◌else◌, List, [], length, Option, unwrap_or, slice_index_or, find, filter}
+use Rattle.std.specs.Prelude.{ℕ, ◌&&◌, ◌==◌, ◌/◌, if◌then◌else◌, List, [], length, Option, unwrap_or, slice_index_or, find, filter}
 use Rattle.std.specs.Option.{option_map}
 use Rattle.std.specs.List.{position_from, range_with_len}
 use Rattle.plat_base.specs.Machine.{Machine, Program}
+use Rattle.plat_base.specs.declared.limits.TheConstants.{PAGES, SPACES, VIRTUAL_PAGES}
 use Rattle.plat_base.specs.declared.configs.Distance.{Distance}
 use Rattle.plat_base.specs.declared.configs.Entry.{Entry}
 use Rattle.plat_base.specs.declared.configs.Init.{Init}
@@ -11,8 +12,9 @@ use Rattle.plat_base.specs.declared.configs.Init.{Init}
 abbrev pub numbers : ℕ → List ℕ
 numbers n = range_with_len 0 n
 
+-- what stands for an entry that a machine does not have: a page of a space that no machine has
 abbrev pub no_entry : Entry
-no_entry = record { space = 0; vpage = 0; page = 0 }
+no_entry = record { space = SPACES; vpage = VIRTUAL_PAGES; page = PAGES }
 
 abbrev pub no_program : Program
 no_program = record { space = 0; code = []; labels = [] }
@@ -30,6 +32,10 @@ page_of m entry = (slice_index_or m.entries entry no_entry).page
 
 abbrev pub space_of : Machine → ℕ → ℕ
 space_of m entry = (slice_index_or m.entries entry no_entry).space
+
+-- the entry of an address in a space; where it has none, a number past the last entry
+abbrev pub entry_reached : Machine → (space addr : ℕ) → ℕ
+entry_reached m space addr = unwrap_or (entry_at m space (addr / m.words)) (length m.entries)
 
 abbrev pub entries_of_page : Machine → ℕ → List ℕ
 entries_of_page m page = filter (λ e. page_of m e == page) (numbers (length m.entries))

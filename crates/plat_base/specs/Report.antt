@@ -10,7 +10,7 @@ use Rattle.plat_base.specs.GuestRun.{guest_run}
 use Rattle.plat_base.specs.Done.{values_of}
 use Rattle.plat_base.specs.Flat.{flat_value}
 use Rattle.plat_base.specs.Cache.{cache_of}
-use Rattle.plat_base.specs.Coarse.{ended_of}
+use Rattle.plat_base.specs.Ends.{ended_of}
 use Rattle.plat_base.specs.Alike.{same_kind, same_action}
 use Rattle.plat_base.specs.declared.items.Kind.{Kind}
 use Rattle.plat_base.specs.declared.items.Kind.TheVariants as kind

@@ -1,15 +1,16 @@
 -- the rules of a history, item by item: the first bad item, and good
-use Rattle.std.specs.Prelude.{◌≡◌, ◌≤◌, ℕ, zero, suc, ◌+◌, ◌/◌, ◌==◌, nat_lt, nat_le, ◌&&◌, ◌||◌, not, if◌then◌else◌, Bool, true, false, List, [], ◌∷◌, ◌++◌, length, Option, Some, None, is_none, unwrap_or, slice_get, find}
+use Rattle.std.specs.Prelude.{◌≡◌, ◌≤◌, ℕ, zero, suc, ◌+◌, ◌/◌, ◌==◌, nat_lt, nat_le, ◌&&◌, ◌||◌, not, if◌then◌else◌, Bool, true, false, List, [], ◌∷◌, ◌++◌, length, Option, Some, None, is_none, slice_get, find}
 use Rattle.plat_base.specs.Verdicts.{Answer}
 use Rattle.plat_base.specs.Machine.{Machine}
-use Rattle.plat_base.specs.Pages.{numbers, entry_at, space_of}
+use Rattle.plat_base.specs.Pages.{numbers, entry_at, entry_reached, space_of}
 use Rattle.plat_base.specs.GuestRun.{GuestRun, guest_run, want_of, Operation, Reaches, Switches, Outcome, GoesOn, HasHalted, HasTrapped}
 use Rattle.plat_base.specs.Done.{values_of, operations_of, is_done_access, are_done}
 use Rattle.plat_base.specs.Flat.{flat_value, flat_writes, is_write}
 use Rattle.plat_base.specs.Directories.{dir_of, seq_of, last_of}
-use Rattle.plat_base.specs.Held.{held, active, has_right, later, removes_all, removes_writes}
+use Rattle.plat_base.specs.Held.{held, held_through, active, has_right, later, removes_all, removes_writes}
 use Rattle.plat_base.specs.Decide.{decide, may_decide, is_frame}
-use Rattle.plat_base.specs.Coarse.{writes_made, cause_of, right_of, ended_of}
+use Rattle.plat_base.specs.Accesses.{writes_made, cause_of, right_of}
+use Rattle.plat_base.specs.Ends.{ended_of}
 use Rattle.plat_base.specs.Alike.{same_cause, same_action, same_removed, same_dir, same_right}
 use Rattle.plat_base.specs.Copies.{same_frame}
 use Rattle.plat_base.specs.declared.frames.Frame.{Frame}
@@ -66,8 +67,8 @@ is_ordered_switch m items s = nat_lt s.actor m.nodes && is_switch_next (next_ope
 
 -- ---- grant: the actor holds the translation, and nothing has removed it since
 
-abbrev pub entry_of_access : Machine → Access → ℕ
-entry_of_access m a = unwrap_or (entry_at m a.space (a.addr / m.words)) 0
+abbrev pub entry_of_access : Machine → Access → Option ℕ
+entry_of_access m a = entry_at m a.space (a.addr / m.words)
 
 abbrev pub is_grant_of : Access → Option Translation → Bool
 is_grant_of a None = false
@@ -76,7 +77,7 @@ is_grant_of a (Some t) = same_frame t.grant.frame a.frame && t.seq == a.grant
 -- the actor holds the access's translation with enough right, and no later change of the page took it or that right away
 abbrev pub is_granted : Machine → List Item → Access → Bool
 is_granted m items a =
-    let t = held m items a.actor (entry_of_access m a)
+    let t = held_through m items a.actor (entry_of_access m a)
     in is_grant_of a t && has_right a.kind t && not (later removes_all items a.page a.grant)
     && not (is_write a.kind && later removes_writes items a.page a.grant)
 
@@ -111,7 +112,7 @@ abbrev pub is_fault_of : Machine → List Item → Change → Grant → Option O
 is_fault_of m items c g None = false
 is_fault_of m items c g (Some (Switches space)) = false
 is_fault_of m items c g (Some (Reaches r)) =
-    nat_lt g.entry (length m.entries) && g.entry == unwrap_or (entry_at m r.space (r.addr / m.words)) (length m.entries)
+    nat_lt g.entry (length m.entries) && g.entry == entry_reached m r.space r.addr
     && r.page == c.page && same_cause (cause_of r.kind) c.cause && not (has_right r.kind (held m items c.actor g.entry))
 
 abbrev pub is_fault_decision : Machine → Answer → List Item → Change → Grant → Bool
@@ -164,7 +165,7 @@ is_answered m items x =
 abbrev pub wants_right : Machine → List Item → ℕ → Want → Bool
 wants_right m items q want.Local = false
 wants_right m items q (want.Access kind space addr operand) =
-    not (has_right kind (held m items q (unwrap_or (entry_at m space (addr / m.words)) 0)))
+    not (has_right kind (held_through m items q (entry_at m space (addr / m.words))))
 wants_right m items q (want.Switch space) = false
 wants_right m items q (want.Print value) = false
 wants_right m items q want.Halted = false

@@ -4,7 +4,9 @@ use Rattle.std.specs.List.{list_any}
 use Rattle.plat_base.specs.Verdicts.{Answer}
 use Rattle.plat_base.specs.Machine.{Machine, Turns, robin, random, listed}
 use Rattle.plat_base.specs.Pages.{numbers}
-use Rattle.plat_base.specs.Coarse.{Coarse, coarse_start, is_live, turn}
+use Rattle.plat_base.specs.Ends.{is_live}
+use Rattle.plat_base.specs.Coarse.{Coarse, coarse_start}
+use Rattle.plat_base.specs.Turns.{turn}
 
 -- where a schedule stands: the actor chosen last, what is left of a list, and the state of the random generator
 pub record Chooser : Type 0 where

@@ -1,5 +1,6 @@
 //! How processors end, and what a finished run hands out.
 ghost use Rattle.std.specs.Prelude.{◌≤◌, length};
+ghost use Rattle.plat_base.specs.declared.limits.TheConstants.{MOST_ITEMS};
 
 use crate::configs::Config;
 use crate::items::Item;
@@ -27,15 +28,11 @@ pub struct Ended {
     pub turns: u32,
 }
 
-/// The most items that a history can have: four for each turn of eight processors, and one for each page at each pass of
-/// the daemon.
-pub const MOST_ITEMS: usize = 2_621_440;
-
 /// A run that is over: its machine, its history, and the processors' ends in rising number.
 #[derive(Debug, Drop)]
 pub struct Finished {
     pub cfg: Config,
     pub items: List<Item>,
     pub ends: List<Ended>,
-    pub ghost within: { length items.items ≤ 2621440 },
+    pub ghost within: { length items.items ≤ MOST_ITEMS },
 }

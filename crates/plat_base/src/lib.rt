@@ -3,11 +3,14 @@
 
 pub mod configs;
 pub mod endings;
+pub mod entries;
 pub mod faults;
 pub mod frames;
 pub mod guests;
 pub mod items;
 pub mod journals;
+pub mod kinds;
+pub mod limits;
 pub mod lists;
 pub mod names;
 pub mod policies;
@@ -24,6 +27,10 @@ pub use items::{
     Switch, Translation,
 };
 pub use journals::Journals;
+pub use limits::{
+    ACTORS, BUDGET, FRAMES, INSTRUCTIONS, LABELS, LISTED, MODULES, MOST_ITEMS, MOST_TURNS, PAGES,
+    REGISTERS, SPACES, VIRTUAL_PAGES,
+};
 pub use lists::List;
 pub use names::Name;
 pub use policies::{Decision, Policy, PolicyKind, Verdict};

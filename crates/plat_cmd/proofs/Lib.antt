@@ -1,4 +1,9 @@
+pub mod ArgumentLemmas
 pub mod WordLemmas
+pub mod CommandLemmas
 pub mod RunLemmas
 pub mod ReadLemmas
-pub mod PerformLemmas
+pub mod EndingLemmas
+pub mod PromiseLemmas
+pub mod ReplayLemmas
+pub mod RunDoneLemmas

@@ -2,7 +2,8 @@
 use Rattle.std.proofs.Common.{◌≡◌, ℕ, zero, suc, ◌+◌, ◌-◌, ◌*◌, ◌≤◌, List, sym, ap, subst, ◌∙◌, arith}
 use Rattle.std.specs.Prelude.{None, Some}
 use Rattle.plat_base.specs.Machine.{Machine, Turns}
-use Rattle.plat_base.specs.Coarse.{Coarse, turn}
+use Rattle.plat_base.specs.Coarse.{Coarse}
+use Rattle.plat_base.specs.Turns.{turn}
 use Rattle.plat_base.specs.Schedule.{Scheduled, choose, live_processors, with_choice, scheduled_turn, scheduled, coarse_run}
 use Rattle.plat_base.specs.Verdicts.{policy_answer}
 use Rattle.plat_base.specs.declared.endings.Ended.{Ended}

@@ -1,3 +1,6 @@
+pub mod Arguments
 pub mod Commands
-pub mod Promise
+pub mod Inputs
+pub mod Works
+pub mod Promises
 pub mod Steps

@@ -1,33 +1,44 @@
 -- what the parts of a command do
-use Rattle.std.specs.Prelude.{◌≡◌, ◌⊎◌, ℕ, ◌≤◌, List, [], Option, IfSome, Result, Ok, Err}
+use Rattle.std.specs.Prelude.{◌≡◌, ℕ, ◌≤◌, List, [], Option, Some, IfSome, Result, Ok, Err}
 use Rattle.plat_base.specs.Machine.{Machine}
-use Rattle.plat_base.specs.FirstFault.{text_at}
-use Rattle.plat_base.specs.declared.items.Item.{Item}
+use Rattle.plat_grammar.specs.HistoryCanon.{History}
+use Rattle.plat_base.specs.declared.statuses.Bad.{Bad}
+use Rattle.plat_base.specs.Schedule.{Scheduled, scheduled, scheduled_turn}
+use Rattle.plat_base.specs.Verdicts.{policy_answer}
 use Rattle.plat_base.specs.declared.statuses.Status.{Status}
 use Rattle.plat_base.specs.declared.statuses.Status.TheVariants as status
 use Rattle.plat_io.specs.Streams.{HasRisen}
 use Rattle.plat_io.specs.declared.faults.WriteFault.{WriteFault}
-use Rattle.plat_io.specs.declared.sinks.Sink.{Ghosts}
-use Rattle.plat_io.specs.declared.sources.Source.{Ghosts as Reader}
-use Rattle.plat_cmd.specs.Promise.{HasRead, HasDone, IfTextOf, IsNoRefusal}
-use Rattle.plat_cmd.specs.declared.words.Command.{Command}
+use Rattle.plat_coarse.specs.CoarseSeen.{CoarseSeen}
+use Rattle.plat_sched.specs.ScheduleSeen.{ScheduleSeen}
+use Rattle.plat_cmd.specs.Inputs.{Input, machine_text, history_text, nothing, IsFault}
+use Rattle.plat_cmd.specs.Works.{first_bad_of}
+use Rattle.plat_cmd.specs.declared.outcomes.Outcome.{Outcome}
 use Rattle.plat_cmd.specs.declared.outcomes.Stop.{Stop}
 use Rattle.plat_cmd.specs.declared.outcomes.Stop.TheVariants as stop
 
--- ---- reading a machine text
+-- ---- reading a text
 
--- why no machine was read of the bytes that a source told, if it told them
-abbrev pub IsStop : Option (List ℕ) → (faults_before faults_after : ℕ) → Stop → Type 0
-IsStop told before after (stop.Refused r) = IfSome told (λ bytes. text_at bytes ≡ Err r)
-IsStop told before after stop.ReadFault = HasRisen before after
-IsStop told before after stop.OutOfMemory = Unit {0}
+-- why nothing was read of the bytes that a source told, if it told them
+abbrev pub IsStop : Input → Option (List ℕ) → (faults_before faults_after : ℕ) → Stop → Type 0
+IsStop i told before after (stop.Refused r) = IfSome told (λ bytes. IsFault i bytes r)
+IsStop i told before after stop.ReadFault = HasRisen before after
+IsStop i told before after stop.OutOfMemory = Unit {0}
 
--- a text of the machine m is not refused, and no other machine is read
-abbrev pub AcceptsAs : Machine → Result Machine Stop → Type 0
-AcceptsAs m (Ok read) = read ≡ m
-AcceptsAs m (Err (stop.Refused r)) = ⊥
-AcceptsAs m (Err stop.ReadFault) = Unit {0}
-AcceptsAs m (Err stop.OutOfMemory) = Unit {0}
+-- a command that reads nothing stops for want of memory alone, and leaves its source as it was
+abbrev pub StopsAs : {S : Type 0} → Input → (before after : S) → Stop → Type 0
+StopsAs machine_text before after s = Unit {0}
+StopsAs history_text before after s = Unit {0}
+StopsAs nothing before after (stop.Refused r) = ⊥
+StopsAs nothing before after stop.ReadFault = ⊥
+StopsAs nothing before after stop.OutOfMemory = after ≡ before
+
+-- a text of this is not refused, and nothing else is read
+abbrev pub AcceptsAs : {X : Type 0} → X → Result X Stop → Type 0
+AcceptsAs it (Ok read) = read ≡ it
+AcceptsAs it (Err (stop.Refused r)) = ⊥
+AcceptsAs it (Err stop.ReadFault) = Unit {0}
+AcceptsAs it (Err stop.OutOfMemory) = Unit {0}
 
 abbrev pub read_as : {X Y E : Type 0} → (X → Y) → Result X E → Result Y E
 read_as view (Ok x) = Ok (view x)
@@ -39,10 +50,34 @@ stop_status stop.ReadFault = status.ReadFault
 stop_status stop.OutOfMemory = status.OutOfMemory
 
 -- a command stopped before it wrote anything
-pub record HasStopped {K : Type 0} (stopped : Stop) (old new : K) (now : Status) (kept : List Item) : Type 0 where
-  pub ended : now ≡ stop_status stopped
-  pub history : kept ≡ []
+pub record HasStopped {K : Type 0} (stopped : Stop) (old new : K) (out : Outcome) : Type 0 where
+  pub ended : out.status ≡ stop_status stopped
+  pub history : out.kept.items ≡ []
   pub sink : new ≡ old
+
+-- ---- judging a history
+
+-- the history is bad, and nothing was written or kept
+pub record HasFoundBad {K : Type 0} (h : History) (old new : K) (out : Outcome) : Type 0 where
+  pub found : Bad
+  pub first : first_bad_of h ≡ Some found
+  pub ended : out.status ≡ status.HistoryBad found
+  pub history : out.kept.items ≡ []
+  pub sink : new ≡ old
+
+-- ---- a coarse run
+
+-- a run and its schedule as they stand, as the definition of the coarse run has them
+abbrev pub standing : CoarseSeen → ScheduleSeen → Scheduled
+standing k s = record { coarse = k.run; chooser = s.chooser }
+
+-- one more turn, by the schedule and the policy of the machine
+abbrev pub own_turn : Machine → Scheduled → Scheduled
+own_turn m x = scheduled_turn m (policy_answer m.policy) x
+
+-- the coarse run after so many turns
+abbrev pub after_turns : Machine → ℕ → Scheduled
+after_turns m turns = scheduled m (policy_answer m.policy) turns
 
 -- ---- writing
 
@@ -50,13 +85,3 @@ pub record HasStopped {K : Type 0} (stopped : Stop) (old new : K) (now : Status)
 abbrev pub status_after : Status → Result (Unit {0}) WriteFault → Status
 status_after complete (Ok _) = complete
 status_after complete (Err _) = status.WriteFault
-
--- ---- a command
-
--- a command read a machine and did what it does, or it stopped with a cause; and a text of a machine is not refused
-pub record Performs {S K : Type 0} (c : Command) (source : Reader S) (sink : Ghosts K) (before after : S) (old new : K) (now : Status) (kept : List Item) : Type 0 where
-  pub found :
-      HasRead (source.left before) (source.left after) (λ m. HasDone c sink m old new now kept)
-      ⊎ ((stopped : Stop) × IsStop (source.left before) (source.faults before) (source.faults after) stopped × HasStopped stopped old new now kept)
-  pub accepted : IfTextOf (source.left before) (λ m. HasDone c sink m old new now kept ⊎ IsNoRefusal now)
-  pub count : source.faults before ≤ source.faults after

@@ -1,6 +1,6 @@
 //! Checks of machine texts.
 ghost use Rattle.plat_base.specs.Seen.{machine};
-ghost use Rattle.plat_cmd.specs.Promise.{HasPrinted};
+ghost use Rattle.plat_cmd.specs.Works.{HasPrinted};
 
 use crate::outcomes::{Outcome, status_after, without_run};
 use plat_base::{Config, Status};

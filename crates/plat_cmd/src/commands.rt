@@ -1,15 +1,18 @@
 //! The commands, and the top call.
-ghost use Rattle.std.specs.Prelude.{◌≡◌, ◌⊎◌, ◌≤◌, true, false, [], IfOk, IfErr, IfSome, IsTrue, Err};
-ghost use Rattle.plat_base.specs.FirstFault.{text_at};
-ghost use Rattle.plat_base.specs.Statuses.{is_silent, refusal_of};
+ghost use Rattle.std.specs.Prelude.{◌≡◌, IfOk, IfErr};
 ghost use Rattle.plat_base.specs.declared.statuses.Status.TheVariants as statuses;
-ghost use Rattle.plat_io.specs.Streams.{HasRisen};
-ghost use Rattle.plat_cmd.specs.Commands.{read_of, texts_of};
-ghost use Rattle.plat_cmd.specs.Promise.{EndsWell, HasDone, HasRead, IfTextOf, IsDoneWithMemory, IsNoRefusal, IsQuiet, may_end};
+ghost use Rattle.plat_cmd.specs.Arguments.{texts_of};
+ghost use Rattle.plat_cmd.specs.Commands.{read_of};
+ghost use Rattle.plat_cmd.specs.Promises.{IsBadWords, Promises};
 ghost use Rattle.plat_cmd.specs.declared.words.Command.TheVariants as commands;
 
-use crate::outcomes::{Outcome, without_run};
-use crate::performs::perform;
+use crate::checks::print;
+use crate::generated::{print_nth, sum_nth};
+use crate::outcomes::{Outcome, stop_status, without_run};
+use crate::readings::{read_history_text, read_machine};
+use crate::replays::replay_history;
+use crate::simulations::simulate;
+use crate::traces::trace;
 use crate::words::{Command, Grain, Output, WordsFault, read_words};
 use plat_base::Status;
 use plat_io::{Sink, Source};
@@ -17,21 +20,15 @@ use std::alloc::Global;
 
 /// `check`: reads a machine text, and writes its canonical text.
 pub fn check<S: Source, K: Sink>(alloc: Global, source: &mut S, sink: &mut K) -> Outcome
-    ensures done { is_silent result.status ≡ false → HasRead (S.left source.old) (S.left source.new) (λ m. HasDone commands.Check K.Sink m sink.old sink.new result.status result.kept.items) }
-    ensures accepted { IfTextOf (S.left source.old) (λ m. HasDone commands.Check K.Sink m sink.old sink.new result.status result.kept.items ⊎ IsNoRefusal result.status) }
-    ensures complete { IfTextOf (S.left source.old) (λ m. EndsWell commands.Check m → IsQuiet (S.faults source.old) (S.faults source.new) → IsQuiet (K.faults sink.old) (K.faults sink.new) → IsDoneWithMemory result.status) }
-    ensures ends { IsTrue (may_end commands.Check result.status) }
-    ensures refused { IfSome (refusal_of result.status) (λ refused. IfSome (S.left source.old) (λ bytes. text_at bytes ≡ Err refused)) }
-    ensures read_fault { result.status ≡ statuses.ReadFault → HasRisen (S.faults source.old) (S.faults source.new) }
-    ensures write_fault { result.status ≡ statuses.WriteFault → HasRisen (K.faults sink.old) (K.faults sink.new) }
-    ensures silent { is_silent result.status ≡ true → sink.new ≡ sink.old }
-    ensures nothing_kept { is_silent result.status ≡ true → result.kept.items ≡ [] }
-    ensures count { S.faults source.old ≤ S.faults source.new }
+    ensures { Promises commands.Check S.Source K.Sink source.old source.new sink.old sink.new result }
 {
-    perform(alloc, Command::Check, source, sink)
+    match read_machine(alloc, source) {
+        Ok(cfg) => print(alloc, &cfg, sink),
+        Err(stop) => without_run(alloc, stop_status(stop)),
+    }
 }
 
-/// `sim`: reads a machine text, makes its run, and writes its report. What comes after the run is the status of its ends:
+/// `sim`: reads a machine text, makes its run, and writes its report or its history text. What comes after the run is the status of its ends:
 /// NoFrames where some processor found no frame, else Spent where some processor spent its budget, else Done.
 pub fn sim<S: Source, K: Sink>(
     alloc: Global,
@@ -40,18 +37,27 @@ pub fn sim<S: Source, K: Sink>(
     source: &mut S,
     sink: &mut K,
 ) -> Outcome
-    ensures done { is_silent result.status ≡ false → HasRead (S.left source.old) (S.left source.new) (λ m. HasDone (commands.Sim grain output) K.Sink m sink.old sink.new result.status result.kept.items) }
-    ensures accepted { IfTextOf (S.left source.old) (λ m. HasDone (commands.Sim grain output) K.Sink m sink.old sink.new result.status result.kept.items ⊎ IsNoRefusal result.status) }
-    ensures complete { IfTextOf (S.left source.old) (λ m. EndsWell (commands.Sim grain output) m → IsQuiet (S.faults source.old) (S.faults source.new) → IsQuiet (K.faults sink.old) (K.faults sink.new) → IsDoneWithMemory result.status) }
-    ensures ends { IsTrue (may_end (commands.Sim grain output) result.status) }
-    ensures refused { IfSome (refusal_of result.status) (λ refused. IfSome (S.left source.old) (λ bytes. text_at bytes ≡ Err refused)) }
-    ensures read_fault { result.status ≡ statuses.ReadFault → HasRisen (S.faults source.old) (S.faults source.new) }
-    ensures write_fault { result.status ≡ statuses.WriteFault → HasRisen (K.faults sink.old) (K.faults sink.new) }
-    ensures silent { is_silent result.status ≡ true → sink.new ≡ sink.old }
-    ensures nothing_kept { is_silent result.status ≡ true → result.kept.items ≡ [] }
-    ensures count { S.faults source.old ≤ S.faults source.new }
+    ensures { Promises (commands.Sim grain output) S.Source K.Sink source.old source.new sink.old sink.new
+        result }
 {
-    perform(alloc, Command::Sim { grain, output }, source, sink)
+    match read_machine(alloc, source) {
+        Ok(cfg) => match (grain, output) {
+            (Grain::Coarse, Output::Report) => simulate(alloc, cfg, sink),
+            (Grain::Coarse, Output::Trace) => trace(alloc, cfg, sink),
+        },
+        Err(stop) => without_run(alloc, stop_status(stop)),
+    }
+}
+
+/// `replay`: reads a history text, judges it, and writes its report. HistoryBad names the first item that breaks a rule, and
+/// then nothing is written. Where none does, the status is that of the ends that were read, as after a run.
+pub fn replay<S: Source, K: Sink>(alloc: Global, source: &mut S, sink: &mut K) -> Outcome
+    ensures { Promises commands.Replay S.Source K.Sink source.old source.new sink.old sink.new result }
+{
+    match read_history_text(alloc, source) {
+        Ok(history) => replay_history(alloc, history, sink),
+        Err(stop) => without_run(alloc, stop_status(stop)),
+    }
 }
 
 /// The program: the command that these words name, the program's name not among them.
@@ -61,21 +67,21 @@ pub fn platinum<S: Source, K: Sink>(
     source: &mut S,
     sink: &mut K,
 ) -> Outcome
-    ensures done { is_silent result.status ≡ false → IfOk (read_of (texts_of words.now)) (λ command. HasRead (S.left source.old) (S.left source.new) (λ m. HasDone command K.Sink m sink.old sink.new result.status result.kept.items)) }
-    ensures accepted { IfOk (read_of (texts_of words.now)) (λ command. IfTextOf (S.left source.old) (λ m. HasDone command K.Sink m sink.old sink.new result.status result.kept.items ⊎ IsNoRefusal result.status)) }
-    ensures complete { IfOk (read_of (texts_of words.now)) (λ command. IfTextOf (S.left source.old) (λ m. EndsWell command m → IsQuiet (S.faults source.old) (S.faults source.new) → IsQuiet (K.faults sink.old) (K.faults sink.new) → IsDoneWithMemory result.status)) }
-    ensures ends { IfOk (read_of (texts_of words.now)) (λ command. IsTrue (may_end command result.status)) }
-    ensures bad_words { IfErr (read_of (texts_of words.now)) (λ _. result.status ≡ statuses.BadWords) }
+    // What the command that the words name promises of its own call.
+    ensures named { IfOk (read_of (texts_of words.now))
+        (λ c. Promises c S.Source K.Sink source.old source.new sink.old sink.new result) }
+    // Other words are BadWords, and nothing is read, written or kept.
+    ensures bad_words { IfErr (read_of (texts_of words.now))
+        (λ _. IsBadWords source.old source.new sink.old sink.new result) }
+    // BadWords comes with nothing read.
     ensures unread { result.status ≡ statuses.BadWords → source.new ≡ source.old }
-    ensures refused { IfSome (refusal_of result.status) (λ refused. IfSome (S.left source.old) (λ bytes. text_at bytes ≡ Err refused)) }
-    ensures read_fault { result.status ≡ statuses.ReadFault → HasRisen (S.faults source.old) (S.faults source.new) }
-    ensures write_fault { result.status ≡ statuses.WriteFault → HasRisen (K.faults sink.old) (K.faults sink.new) }
-    ensures silent { is_silent result.status ≡ true → sink.new ≡ sink.old }
-    ensures nothing_kept { is_silent result.status ≡ true → result.kept.items ≡ [] }
-    ensures count { S.faults source.old ≤ S.faults source.new }
 {
     match read_words(alloc, words) {
-        Ok(command) => perform(alloc, command, source, sink),
+        Ok(Command::Check) => check(alloc, source, sink),
+        Ok(Command::Sim { grain, output }) => sim(alloc, grain, output, source, sink),
+        Ok(Command::Replay) => replay(alloc, source, sink),
+        Ok(Command::Gen(n)) => print_nth(alloc, n, sink),
+        Ok(Command::Big(n)) => sum_nth(alloc, n, sink),
         Err(WordsFault::BadWords) => without_run(alloc, Status::BadWords),
         Err(WordsFault::OutOfMemory) => without_run(alloc, Status::OutOfMemory),
     }

@@ -4,9 +4,10 @@ ghost use Rattle.plat_base.specs.Machine.{Machine};
 ghost use Rattle.plat_base.specs.Seen.{machine};
 ghost use Rattle.plat_base.specs.declared.statuses.Status.TheVariants as statuses;
 ghost use Rattle.plat_flat.specs.FlatSeen.{IsFlatOf};
-ghost use Rattle.plat_cmd.specs.Promise.{HasRun, history_of, ends_of};
+ghost use Rattle.plat_cmd.specs.Works.{HasRun, history_of, ends_of};
 ghost use Rattle.plat_cmd.specs.Steps.{HasStopped};
 ghost use Rattle.plat_cmd.specs.declared.outcomes.Stop.TheVariants as stops;
+ghost use Rattle.plat_cmd.specs.declared.words.Output.TheVariants as outputs;
 
 use crate::outcomes::{Outcome, status_after, status_of, without_run};
 use crate::runs::run;
@@ -17,13 +18,13 @@ use std::alloc::Global;
 
 /// A run that is over, and what its report needs.
 #[derive(Drop)]
-struct Made {
-    finished: Finished,
-    tally: Tally,
+pub struct Made {
+    pub finished: Finished,
+    pub tally: Tally,
 }
 
 /// The coarse run of a machine. All memory that the report takes is taken before it.
-fn make(alloc: Global, cfg: Config) -> Result<Made, OutOfMemory>
+pub fn make(alloc: Global, cfg: Config) -> Result<Made, OutOfMemory>
     ensures machine { IfOk result (λ made. machine made.finished.cfg ≡ machine cfg) }
     ensures items { IfOk result (λ made. made.finished.items.items ≡ history_of (machine cfg)) }
     ensures ends { IfOk result (λ made. made.finished.ends.items ≡ ends_of (machine cfg)) }
@@ -39,7 +40,8 @@ fn reported<K: Sink>(made: Made, sink: &mut K) -> Outcome
     requires items { made.finished.items.items ≡ history_of (machine made.finished.cfg) }
     requires ends { made.finished.ends.items ≡ ends_of (machine made.finished.cfg) }
     requires tally { IsFlatOf (machine made.finished.cfg) [] made.tally }
-    ensures { HasRun K.Sink (machine made.finished.cfg) sink.old sink.new result.status result.kept.items }
+    ensures { let m = machine made.finished.cfg
+        in HasRun outputs.Report K.Sink m sink.old sink.new result.status result.kept.items }
 {
     let Made { finished, tally } = made;
     let written = report(
@@ -58,7 +60,8 @@ fn reported<K: Sink>(made: Made, sink: &mut K) -> Outcome
 
 /// Makes the coarse run of a machine and writes its report.
 pub fn simulate<K: Sink>(alloc: Global, cfg: Config, sink: &mut K) -> Outcome
-    ensures { HasRun K.Sink (machine cfg) sink.old sink.new result.status result.kept.items ⊎ HasStopped stops.OutOfMemory sink.old sink.new result.status result.kept.items }
+    ensures { HasRun outputs.Report K.Sink (machine cfg) sink.old sink.new result.status result.kept.items
+        ⊎ HasStopped stops.OutOfMemory sink.old sink.new result }
 {
     match make(alloc, cfg) {
         Ok(made) => reported(made, sink),

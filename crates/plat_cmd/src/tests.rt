@@ -1,5 +1,7 @@
 //! Whole commands over sources and sinks in memory.
-use crate::{Grain, Outcome, Output, check, platinum, sim};
+use crate::{
+    Command, Grain, Outcome, Output, WordsFault, check, platinum, print_generated, read_words, sim,
+};
 use plat_base::{List, OutOfMemory, Refused, Status, Why};
 use plat_io::{MemorySink, MemorySource};
 use std::alloc::Global;
@@ -218,12 +220,16 @@ fn a_full_sink_is_a_write_fault(rt: HostRuntime) -> Result<(), Fail> {
 #[test]
 fn other_words_are_bad_words(rt: HostRuntime) -> Result<(), Fail> {
     let none: [&str; 0] = [];
-    let lists: [&[&str]; 7] = [
+    let lists: [&[&str]; 11] = [
         &["sim", "medium"],
         &["sim"],
         &["run", "fast"],
         &["gen", "-1"],
         &["gen", "007"],
+        &["gen", "4294967296"],
+        &["big", ""],
+        &["check", "help"],
+        &["sim", "coarse", "now", "then"],
         &["--help"],
         none.as_slice(),
     ];
@@ -235,5 +241,38 @@ fn other_words_are_bad_words(rt: HostRuntime) -> Result<(), Fail> {
         assert_eq!(rt; source.left(), SMALLEST);
         assert_eq!(rt; sink.bytes(), b"".as_slice());
     }
+    Ok(())
+}
+
+#[test]
+fn words_name_commands(rt: HostRuntime) -> Result<(), Fail> {
+    let report = Command::Sim {
+        grain: Grain::Coarse,
+        output: Output::Report,
+    };
+    let lists: [(&[&str], Command); 4] = [
+        (&["check"], Command::Check),
+        (&["sim", "coarse"], report),
+        (&["gen", "7"], Command::Gen(7)),
+        (&["big", "4294967295"], Command::Big(4_294_967_295)),
+    ];
+    for (words, command) in lists {
+        let read: Result<Command, WordsFault> = Ok(command);
+        assert_eq!(rt; read_words(rt.alloc(), words), read);
+    }
+    Ok(())
+}
+
+#[test]
+fn a_generated_text_is_read_as_the_generated_machine(rt: HostRuntime) -> Result<(), Fail> {
+    let mut text = MemorySink::new(rt.alloc(), 4000, List::new(rt.alloc()))?;
+    let printed = print_generated(rt.alloc(), 7, &mut text);
+    assert_eq!(rt; printed.status, Status::Done);
+    assert_eq!(rt; printed.kept.len(), 0);
+    let mut source = source_of(rt.alloc(), text.bytes())?;
+    let mut again = MemorySink::new(rt.alloc(), 4000, List::new(rt.alloc()))?;
+    let checked = check(rt.alloc(), &mut source, &mut again);
+    assert_eq!(rt; checked.status, Status::Done);
+    assert_eq!(rt; again.bytes(), text.bytes());
     Ok(())
 }

@@ -1,7 +1,11 @@
 //! The words of the command line.
-ghost use Rattle.std.specs.Prelude.{◌≡◌};
-ghost use Rattle.plat_cmd.specs.Commands.{read_of, texts_of, same_words};
+ghost use Rattle.std.specs.Prelude.{◌≡◌, ◌⊎◌, IfOk, IfErr, Ok, Err};
+ghost use Rattle.plat_cmd.specs.Arguments.{texts_of};
+ghost use Rattle.plat_cmd.specs.Commands.{read_of, numbered_of, same_words};
+ghost use Rattle.plat_cmd.specs.declared.words.WordsFault.TheVariants as faults;
 
+use crate::arguments::{are_plain, arguments};
+use plat_text::read_u32;
 use std::alloc::Global;
 
 /// How finely a simulation interleaves its processors: by whole instructions.
@@ -10,17 +14,21 @@ pub enum Grain {
     Coarse,
 }
 
-/// What a run writes.
+/// What a run writes: its report, or the text of its history.
 #[derive(Clone, Copy, Debug, PartialEq, Eq)]
 pub enum Output {
     Report,
+    Trace,
 }
 
-/// A command: `check`, or `sim` with a grain and an output.
+/// A command: `check`, `sim` with a grain and an output, `replay`, or `gen` or `big` with the number of a generated machine.
 #[derive(Clone, Copy, Debug, PartialEq, Eq)]
 pub enum Command {
     Check,
     Sim { grain: Grain, output: Output },
+    Replay,
+    Gen(u32),
+    Big(u32),
 }
 
 /// Why words are no command.
@@ -30,8 +38,36 @@ pub enum WordsFault {
     OutOfMemory,
 }
 
-/// The command that these words name, the program's name not among them: `check` or `sim coarse`. It takes no memory.
-pub fn read_words(_alloc: Global, words: &[&str]) -> Result<Command, WordsFault>
+/// The command that these words name, the program's name not among them.
+pub fn read_words(alloc: Global, words: &[&str]) -> Result<Command, WordsFault>
+    ensures command { IfOk (read_of (texts_of words.now)) (λ command. (result ≡ Ok command) ⊎ (result ≡ Err faults.OutOfMemory)) }
+    ensures bad_words { IfErr (read_of (texts_of words.now)) (λ _. result ≡ Err faults.BadWords) }
+{
+    if !are_plain(words) {
+        return Err(WordsFault::BadWords);
+    }
+    match arguments(alloc, words) {
+        Ok(matches) => match matches.get_strs("words") {
+            Some(values) => command_of(values),
+            None => Err(WordsFault::BadWords),
+        },
+        Err(_) => Err(fault_without_memory(words)),
+    }
+}
+
+/// Words that no memory was left for: those that are no command are bad words none the less.
+fn fault_without_memory(words: &[&str]) -> WordsFault
+    ensures command { IfOk (read_of (texts_of words.now)) (λ _. result ≡ faults.OutOfMemory) }
+    ensures bad_words { IfErr (read_of (texts_of words.now)) (λ _. result ≡ faults.BadWords) }
+{
+    match command_of(words) {
+        Ok(_) => WordsFault::OutOfMemory,
+        Err(_) => WordsFault::BadWords,
+    }
+}
+
+/// The command of these words in the table of commands.
+fn command_of(words: &[&str]) -> Result<Command, WordsFault>
     ensures { result ≡ read_of (texts_of words.now) }
 {
     if are_words(words, &["check"]) {
@@ -41,8 +77,15 @@ pub fn read_words(_alloc: Global, words: &[&str]) -> Result<Command, WordsFault>
             grain: Grain::Coarse,
             output: Output::Report,
         })
+    } else if are_words(words, &["sim", "coarse", "trace"]) {
+        Ok(Command::Sim {
+            grain: Grain::Coarse,
+            output: Output::Trace,
+        })
+    } else if are_words(words, &["replay"]) {
+        Ok(Command::Replay)
     } else {
-        Err(WordsFault::BadWords)
+        numbered(words)
     }
 }
 
@@ -51,4 +94,18 @@ fn are_words(words: &[&str], wanted: &[&str]) -> bool
     ensures { result ≡ same_words (texts_of words.now) (texts_of wanted.now) }
 {
     words == wanted
+}
+
+/// The command of a name and a number.
+fn numbered(words: &[&str]) -> Result<Command, WordsFault>
+    ensures { result ≡ numbered_of (texts_of words.now) }
+{
+    match words {
+        [name, word] => match read_u32(word.as_bytes()) {
+            Ok(n) if *name == "gen" => Ok(Command::Gen(n)),
+            Ok(n) if *name == "big" => Ok(Command::Big(n)),
+            Ok(_) | Err(_) => Err(WordsFault::BadWords),
+        },
+        _ => Err(WordsFault::BadWords),
+    }
 }

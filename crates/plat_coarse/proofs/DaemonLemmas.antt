@@ -7,17 +7,18 @@ use Rattle.plat_base.specs.Machine.{Machine}
 use Rattle.plat_base.specs.Pages.{numbers}
 use Rattle.plat_base.specs.Directories.{dir_of}
 use Rattle.plat_base.specs.Decide.{is_dir}
-use Rattle.plat_base.specs.Coarse.{Coarse, thaw, daemon, is_pass}
+use Rattle.plat_base.specs.Coarse.{Coarse}
+use Rattle.plat_base.specs.Turns.{thaw, daemon, is_pass}
 use Rattle.plat_base.specs.Verdicts.{Answer, policy_answer}
 use Rattle.plat_base.specs.declared.endings.Ended.{Ended}
-use Rattle.plat_coarse.specs.Chronicle.{Chronicled}
+use Rattle.plat_chronicle.specs.Chronicle.{Chronicled}
 use Rattle.plat_coarse.specs.Running.{state_of}
 use Rattle.plat_base.specs.declared.policies.PolicyKind.{PolicyKind}
 use Rattle.plat_base.specs.declared.policies.PolicyKind.TheVariants as policy
-use Rattle.plat_laws.specs.Sound.{Sound}
-use Rattle.plat_laws.proofs.TurnItemLaws.{has_daemon-is_pass}
-use Rattle.plat_laws.proofs.TurnLaws.{thaws_sound}
-use Rattle.plat_laws.proofs.RoomLaws.{thaws-within}
+use Rattle.plat_coarse_laws.specs.Sound.{Sound}
+use Rattle.plat_coarse_laws.proofs.TurnItemLaws.{has_daemon-is_pass}
+use Rattle.plat_coarse_laws.proofs.TurnLaws.{thaws_sound}
+use Rattle.plat_coarse_laws.proofs.RoomLaws.{thaws-within}
 use Rattle.plat_coarse.proofs.NumberLemmas.{numbers-more}
 
 pub pass_at : (p : PolicyKind) (t1 t2 now : ℕ) → p ≡ policy.Platinum t1 t2 → now % t2 ≡ 0 → is_pass p now ≡ true

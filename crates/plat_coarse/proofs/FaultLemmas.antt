@@ -6,7 +6,9 @@ use Rattle.plat_base.specs.Verdicts.{Answer}
 use Rattle.plat_base.specs.Machine.{Machine}
 use Rattle.plat_base.specs.Directories.{dir_of, last_of}
 use Rattle.plat_base.specs.Decide.{is_dir, is_empty, fits_cause}
-use Rattle.plat_base.specs.Coarse.{got_frame, is_starved, decided, access_by}
+use Rattle.plat_base.specs.Accesses.{access_by}
+use Rattle.plat_base.specs.Frames.{got_frame, is_starved}
+use Rattle.plat_base.specs.Turns.{decided}
 use Rattle.plat_base.specs.GuestRun.{Reach}
 use Rattle.plat_base.specs.Flat.{flat_value, flat_writes}
 use Rattle.plat_base.specs.Rules.{is_legal}
@@ -16,7 +18,7 @@ use Rattle.plat_base.specs.declared.items.Cause.TheVariants as cause
 use Rattle.plat_base.specs.declared.items.Access.{Access}
 use Rattle.plat_base.specs.declared.items.Item.{Item}
 use Rattle.plat_base.specs.declared.items.Item.TheVariants as item
-use Rattle.plat_laws.proofs.FrameLaws.{got_fits}
+use Rattle.plat_coarse_laws.proofs.FrameLaws.{got_fits}
 use Rattle.plat_laws.proofs.Limits.{and-right}
 use Rattle.plat_coarse.specs.Reached.{decided_if_fed}
 

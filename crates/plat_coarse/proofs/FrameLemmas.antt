@@ -16,7 +16,7 @@ use Rattle.plat_base.specs.Pages.{numbers}
 use Rattle.plat_base.specs.Copies.{copy_on}
 use Rattle.plat_base.specs.Directories.{dir_of}
 use Rattle.plat_base.specs.Decide.{nearer}
-use Rattle.plat_base.specs.Coarse.{is_used, frame_at, free_frame, nearest_in}
+use Rattle.plat_base.specs.Frames.{is_used, frame_at, free_frame, nearest_in}
 use Rattle.plat_base.specs.declared.frames.Frame.{Frame}
 use Rattle.plat_base.specs.declared.items.Item.{Item}
 use Rattle.plat_coarse.specs.Nearer.{nearer_of}

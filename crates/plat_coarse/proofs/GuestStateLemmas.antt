@@ -4,11 +4,10 @@ use Rattle.std.proofs.lemmas.List.{append-nil}
 use Rattle.plat_base.specs.Verdicts.{Answer}
 use Rattle.plat_base.specs.Directories.{dir_of}
 use Rattle.std.proofs.Common.{add-one}
-use Rattle.std.specs.Prelude.{unwrap_or}
 use Rattle.plat_base.specs.Pages.{entry_at}
 use Rattle.plat_base.specs.declared.endings.Ended.{Ended}
-use Rattle.plat_laws.specs.Sound.{IsGuest}
-use Rattle.plat_laws.proofs.RunLaws.{made_in, turn-ends, ended_of-set_other, ended_of-set_same}
+use Rattle.plat_laws.specs.Guests.{IsGuest}
+use Rattle.plat_coarse_laws.proofs.RunLaws.{made_in, turn-ends, ended_of-set_other, ended_of-set_same}
 use Rattle.std.specs.Prelude.{Option, Some, None, if◌then◌else◌}
 use Rattle.std.specs.List.{fold}
 use Rattle.plat_base.specs.Machine.{Machine}
@@ -17,14 +16,19 @@ use Rattle.plat_base.specs.GuestRun.{GuestRun, Reach, guest_run, guest_after, gu
 use Rattle.plat_base.specs.Done.{values_of, reads_word}
 use Rattle.plat_base.specs.Flat.{flat_value}
 use Rattle.plat_base.specs.Held.{held, has_right}
-use Rattle.plat_base.specs.Coarse.{Coarse, is_starved, fault_made, access_made, made_by, guest_now, time_of, decided, cause_of, thaw, thaw_items, fault_items, switch_items, access_by, daemon, is_pass, turn, ended_of, with_made}
+use Rattle.plat_base.specs.Accesses.{cause_of, access_by}
+use Rattle.plat_base.specs.Ends.{time_of, ended_of}
+use Rattle.plat_base.specs.Coarse.{Coarse}
+use Rattle.plat_base.specs.Frames.{is_starved}
+use Rattle.plat_base.specs.Messages.{switch_items}
+use Rattle.plat_base.specs.Turns.{fault_made, access_made, made_by, guest_now, decided, thaw, thaw_items, fault_items, daemon, is_pass, turn, with_made, made_reached}
 use Rattle.plat_base.specs.declared.guests.Want.{Want}
 use Rattle.plat_base.specs.declared.guests.Want.TheVariants as want
 use Rattle.plat_base.specs.declared.items.Kind.TheVariants as kind
 use Rattle.plat_base.specs.declared.items.Item.{Item}
 use Rattle.plat_base.specs.declared.items.Translation.{Translation}
 use Rattle.plat_base.specs.declared.endings.End.TheVariants as end
-use Rattle.plat_laws.proofs.TurnItemLaws as turn_items
+use Rattle.plat_coarse_laws.proofs.TurnItemLaws as turn_items
 use Rattle.plat_laws.proofs.GuestLaws.{guest_run-next, slice_get-append_at, values_of-append}
 use Rattle.plat_laws.proofs.EndLaws.{values_of-no_operations}
 use Rattle.plat_coarse.specs.Acted.{value_found, wants_more}
@@ -57,10 +61,15 @@ module _ (m : Machine) (answer : Answer) (s : Coarse) (q now : ℕ) where
     by true e h = rw e (turn_items.access_by-values m s.history q r t.grant.frame t.seq)
     by false e h = rw e (fault_values entry r (is_starved m s.history q r.page) refl (rw e at h))
 
+  reached_values : (r : Reach) (e : Option ℕ) → (made_reached m answer s q now r e).end ≡ end.Cut
+      → values_of q (made_reached m answer s q now r e).items ≡ (if reads_word r.kind then flat_value m s.history r.page r.word ∷ [] else [])
+  reached_values r None h = absurd (cc)
+  reached_values r (Some entry) h = through_values entry r (held m s.history q entry) h
+
   pub values-made : (w : Want) → (made_by m answer s q now w).end ≡ end.Cut
       → values_of q (made_by m answer s q now w).items ≡ values_wanted m s.history w
   values-made want.Local h = refl
-  values-made (want.Access k space addr operand) h = through_values _ (reach_of m k space addr operand) _ h
+  values-made (want.Access k space addr operand) h = reached_values (reach_of m k space addr operand) (entry_at m space (addr / m.words)) h
   values-made (want.Switch space) h = turn_items.switch_items-values m s.history q space
   values-made (want.Print value) h = refl
   values-made want.Halted h = absurd (cc)
@@ -149,12 +158,17 @@ others_through m answer s q now entry r reach (Some t) other = by (has_right rea
       (turn_items.access_by-operations_other m s.history q reach t.grant.frame t.seq r other))
   by false e = rw e (others_fault m answer s q now entry r reach other)
 
+others_reached : (m : Machine) (answer : Answer) (s : Coarse) (q now r : ℕ) (reach : Reach) (e : Option ℕ) → q ≢ r
+    → values_of r (made_reached m answer s q now reach e).items ≡ []
+others_reached m answer s q now r reach None other = refl
+others_reached m answer s q now r reach (Some entry) other =
+    others_through m answer s q now entry r reach (held m s.history q entry) other
+
 pub values-others : (m : Machine) (answer : Answer) (s : Coarse) (q now r : ℕ) (w : Want) → q ≢ r
     → values_of r (made_by m answer s q now w).items ≡ []
 values-others m answer s q now r want.Local other = refl
 values-others m answer s q now r (want.Access kind space addr operand) other =
-    others_through m answer s q now (unwrap_or (entry_at m space (addr / m.words)) 0) r (reach_of m kind space addr operand)
-    (held m s.history q (unwrap_or (entry_at m space (addr / m.words)) 0)) other
+    others_reached m answer s q now r (reach_of m kind space addr operand) (entry_at m space (addr / m.words)) other
 values-others m answer s q now r (want.Switch space) other =
     values_of-no_operations r (switch_items m s.history q space) (turn_items.switch_items-operations_other m s.history q space r other)
 values-others m answer s q now r (want.Print value) other = refl

@@ -1,8 +1,3 @@
-pub mod RemovalLemmas
-pub mod SpaceLemmas
-pub mod OtherLemmas
-pub mod TranslationLemmas
-pub mod FollowsLemmas
 pub mod RoomLemmas
 pub mod MachineLemmas
 pub mod NumberLemmas

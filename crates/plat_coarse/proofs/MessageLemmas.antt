@@ -1,26 +1,28 @@
 -- the messages of an interrupt and of a switch, as far as a loop has sent them: what they leave as it is, and how many they are
-use Rattle.std.proofs.Common.{◌≡◌, ◌≢◌, ℕ, zero, suc, ◌+◌, ◌<◌, ◌≤◌, Bool, true, false, not, ◌&&◌, List, [], ◌∷◌, ◌++◌, length, length-append, map, filter, Option, Some, None, refl, ap, sym, subst, ◌∙◌, arith}
+use Rattle.std.proofs.Common.{◌≡◌, ◌≢◌, ℕ, zero, suc, ◌+◌, ◌<◌, ◌≤◌, Bool, true, false, not, ◌&&◌, List, [], ◌∷◌, ◌++◌, length, map, filter, Option, Some, None, refl, ap, sym, subst, ◌∙◌, arith}
 use Rattle.std.specs.Prelude.{◌==◌}
 use Rattle.std.specs.Option.{option_map}
 use Rattle.std.specs.List.{list_all, flat_map, filter_map, range_with_len}
 use Rattle.std.proofs.lemmas.Bool.{ne_eqb, eq-eqb}
 use Rattle.std.proofs.lemmas.Bool.Decides.{nat_tests}
 use Rattle.std.proofs.lemmas.Grind.{flat_map-append}
-use Rattle.std.proofs.lemmas.List.{map-append, append_assoc, append-nil}
+use Rattle.std.proofs.lemmas.List.{map-append, append-nil}
 use Rattle.std.proofs.lemmas.List.Folds.{list_all-append}
 use Rattle.std.proofs.lemmas.List.Elements.{filter-append, filter_map-append, filter_agree}
 use Rattle.plat_laws.proofs.ItemLaws.{fold-append_still, list_any-append_still, is_applied, all_applied, active-applied}
 use Rattle.plat_base.specs.Machine.{Machine}
 use Rattle.plat_base.specs.Pages.{numbers, page_of, space_of}
 use Rattle.plat_base.specs.Held.{held, held_after}
-use Rattle.plat_base.specs.Coarse.{Coarse, removes_some, is_target, interrupt_of, interrupts, is_owed_for, by_other, owed_for, owed, activation_of, activation}
+use Rattle.plat_base.specs.Coarse.{Coarse}
+use Rattle.plat_base.specs.Messages.{removes_some, is_target, interrupt_of, interrupts, is_owed_for, by_other, owed_for, owed, activation_of, activation}
 use Rattle.plat_base.specs.declared.endings.Ended.{Ended}
 use Rattle.plat_base.specs.declared.items.Removed.{Removed}
 use Rattle.plat_base.specs.declared.items.Message.{Message}
 use Rattle.plat_base.specs.declared.items.Translation.{Translation}
 use Rattle.plat_base.specs.declared.items.Item.{Item}
 use Rattle.plat_base.specs.declared.items.Item.TheVariants as item
-use Rattle.plat_coarse.specs.Chronicle.{Chronicled, most_items}
+use Rattle.plat_chronicle.specs.Chronicle.{Chronicled, HasAdded, HasRoom}
+use Rattle.plat_chronicle.proofs.ChronicleLemmas.{HasAdded-more, HasRoom-more}
 use Rattle.plat_coarse.proofs.NumberLemmas.{IsByParts, by_parts-more, by_parts-length}
 
 -- ---- items that leave a translation as it is
@@ -57,33 +59,6 @@ owed-past m xs ys q e h = rw (held-past m xs ys q e h) (by (held m xs q e))
     by : (t : Option Translation) → owed_for (xs ++ ys) q (page_of m e) t ≡ owed_for xs q (page_of m e) t
     by None = refl
     by (Some t) = simp (λ (test : Removed → Bool) (seq : ℕ). by_other-past test xs ys q e q (page_of m e) seq h)
-
--- ---- a history that grows
-
--- these items were sent since then
-pub record HasSent (before now : Chronicled) (sent : List Item) : Type 0 where
-  pub machine : now.machine ≡ before.machine
-  pub items : now.items ≡ before.items ++ sent
-  pub spare : now.spare + length sent ≡ before.spare
-
-pub HasSent-more : (before now after : Chronicled) (xs ys all : List Item) → HasSent before now xs → HasSent now after ys → all ≡ xs ++ ys → HasSent before after all
-HasSent-more before now after xs ys all h k is = record {
-  machine = k.machine ∙ h.machine;
-  items = k.items ∙ rw (h.items, is) (append_assoc before.items xs ys);
-  spare = omega (arith, h.spare, k.spare, ap length is, length-append xs ys);
-}
-
--- there is room for these items
-pub record HasRoom (before : Chronicled) (sent : List Item) : Type 0 where
-  pub spare : length sent ≤ before.spare
-  pub few : length before.items + length sent ≤ most_items
-
--- where there is room for all, there is room for the next ones
-pub HasRoom-more : (before now : Chronicled) (xs ys more all : List Item) → HasRoom before all → HasSent before now xs → more ≡ xs ++ ys → length more ≤ length all → HasRoom now ys
-HasRoom-more before now xs ys more all room h is part = record {
-  spare = omega (arith, room.spare, h.spare, ap length is, length-append xs ys);
-  few = omega (arith, room.few, ap length h.items, length-append before.items xs, ap length is, length-append xs ys);
-}
 
 -- ---- the messages of an interrupt
 
@@ -150,7 +125,7 @@ module _ (m : Machine) (items : List Item) (ends : List Ended) (initiator : ℕ)
   pub length-sent_below : (r k : ℕ) → r ≤ k → length (sent_below r) ≤ length (sent_below k)
   length-sent_below r k l = by_parts-length (row m (run items ends) initiator removed entry) (row-by_parts m (run items ends) initiator removed entry) r k l
 
-module _ (before now : Chronicled) (ends : List Ended) (initiator : ℕ) (removed : Removed) (entry r : ℕ) (h : HasSent before now (sent_below before.machine before.items ends initiator removed entry r)) where
+module _ (before now : Chronicled) (ends : List Ended) (initiator : ℕ) (removed : Removed) (entry r : ℕ) (h : HasAdded before now (sent_below before.machine before.items ends initiator removed entry r)) where
   is_target-now : is_target now.machine (run now.items ends) initiator entry r ≡ is_target before.machine (run before.items ends) initiator entry r
   is_target-now = rw (h.machine, h.items) (is_target-sent_below before.machine before.items ends initiator removed entry r)
 
@@ -161,14 +136,14 @@ module _ (before now : Chronicled) (ends : List Ended) (initiator : ℕ) (remove
       (sent_below-target before.machine before.items ends initiator removed entry r (sym is_target-now ∙ is))
       (length-sent_below before.machine before.items ends initiator removed entry (r + 1) before.machine.nodes (omega arith))
 
-  pub HasSent-target : (after : Chronicled) → is_target now.machine (run now.items ends) initiator entry r ≡ true → HasSent now after (interrupt_of removed entry r ∷ []) → HasSent before after (sent_below before.machine before.items ends initiator removed entry (r + 1))
-  HasSent-target after is k =
+  pub HasAdded-target : (after : Chronicled) → is_target now.machine (run now.items ends) initiator entry r ≡ true → HasAdded now after (interrupt_of removed entry r ∷ []) → HasAdded before after (sent_below before.machine before.items ends initiator removed entry (r + 1))
+  HasAdded-target after is k =
       let sent = sent_below before.machine before.items ends initiator removed entry in
-      HasSent-more before now after (sent r) (interrupt_of removed entry r ∷ []) (sent (r + 1)) h k
+      HasAdded-more before now after (sent r) (interrupt_of removed entry r ∷ []) (sent (r + 1)) h k
       (sent_below-target before.machine before.items ends initiator removed entry r (sym is_target-now ∙ is))
 
-  pub HasSent-other : is_target now.machine (run now.items ends) initiator entry r ≡ false → HasSent before now (sent_below before.machine before.items ends initiator removed entry (r + 1))
-  HasSent-other is = rw (sent_below-other before.machine before.items ends initiator removed entry r (sym is_target-now ∙ is)) h
+  pub HasAdded-other : is_target now.machine (run now.items ends) initiator entry r ≡ false → HasAdded before now (sent_below before.machine before.items ends initiator removed entry (r + 1))
+  HasAdded-other is = rw (sent_below-other before.machine before.items ends initiator removed entry r (sym is_target-now ∙ is)) h
 
 -- ---- the messages of an interrupt for several entries
 
@@ -220,7 +195,7 @@ module _ (m : Machine) (items : List Item) (ends : List Ended) (initiator page :
 pub interrupts-sent : (m : Machine) (items : List Item) (ends : List Ended) (initiator page : ℕ) (removed : Removed) → removes_some removed ≡ true → interrupts m (run items ends) initiator page removed ≡ sent_before m items ends initiator page removed (length m.entries)
 interrupts-sent m items ends initiator page removed some = rw some refl
 
-module _ (before now : Chronicled) (ends : List Ended) (initiator page : ℕ) (removed : Removed) (e : ℕ) (h : HasSent before now (sent_before before.machine before.items ends initiator page removed e)) where
+module _ (before now : Chronicled) (ends : List Ended) (initiator page : ℕ) (removed : Removed) (e : ℕ) (h : HasAdded before now (sent_before before.machine before.items ends initiator page removed e)) where
   row-now : row now.machine (run now.items ends) initiator removed e (numbers now.machine.nodes) ≡ sent_below before.machine before.items ends initiator removed e before.machine.nodes
   row-now = rw (h.machine, h.items) (row-sent_before before.machine before.items ends initiator page removed e)
 
@@ -234,13 +209,13 @@ module _ (before now : Chronicled) (ends : List Ended) (initiator page : ℕ) (r
       (sent_before-now is)
       (length-sent_before before.machine before.items ends initiator page removed (e + 1) (length before.machine.entries) (omega arith))
 
-  pub HasSent-page : (after : Chronicled) → page_of before.machine e ≡ page → HasSent now after (row now.machine (run now.items ends) initiator removed e (numbers now.machine.nodes)) → HasSent before after (sent_before before.machine before.items ends initiator page removed (e + 1))
-  HasSent-page after is k =
+  pub HasAdded-page : (after : Chronicled) → page_of before.machine e ≡ page → HasAdded now after (row now.machine (run now.items ends) initiator removed e (numbers now.machine.nodes)) → HasAdded before after (sent_before before.machine before.items ends initiator page removed (e + 1))
+  HasAdded-page after is k =
       let sent = sent_before before.machine before.items ends initiator page removed in
-      HasSent-more before now after (sent e) (row now.machine (run now.items ends) initiator removed e (numbers now.machine.nodes)) (sent (e + 1)) h k (sent_before-now is)
+      HasAdded-more before now after (sent e) (row now.machine (run now.items ends) initiator removed e (numbers now.machine.nodes)) (sent (e + 1)) h k (sent_before-now is)
 
-  pub HasSent-other_page : page_of before.machine e ≢ page → HasSent before now (sent_before before.machine before.items ends initiator page removed (e + 1))
-  HasSent-other_page is = rw (sent_before-other before.machine before.items ends initiator page removed e is) h
+  pub HasAdded-other_page : page_of before.machine e ≢ page → HasAdded before now (sent_before before.machine before.items ends initiator page removed (e + 1))
+  HasAdded-other_page is = rw (sent_before-other before.machine before.items ends initiator page removed e is) h
 
 -- ---- the messages that wait for a switch
 
@@ -292,7 +267,7 @@ module _ (m : Machine) (items : List Item) (q space : ℕ) where
   pub length-told_before : (e k : ℕ) → e ≤ k → length (told_before e) ≤ length (told_before k)
   length-told_before e k l = omega (arith, by_parts-length (waiting m items q space) (waiting-by_parts m items q space) e k l)
 
-module _ (before now : Chronicled) (q space e : ℕ) (h : HasSent before now (told_before before.machine before.items q space e)) where
+module _ (before now : Chronicled) (q space e : ℕ) (h : HasAdded before now (told_before before.machine before.items q space e)) where
   owed-now : owed now.machine now.items q e ≡ owed before.machine before.items q e
   owed-now = rw (h.machine, h.items) (owed-told_before before.machine before.items q space e)
 
@@ -303,14 +278,14 @@ module _ (before now : Chronicled) (q space e : ℕ) (h : HasSent before now (to
       (told_before-owed before.machine before.items q space e msg is (sym owed-now ∙ owes))
       (length-told_before before.machine before.items q space (e + 1) (length before.machine.entries) (omega arith))
 
-  pub HasSent-owed : (after : Chronicled) (msg : Message) → space_of before.machine e ≡ space → owed now.machine now.items q e ≡ Some msg → HasSent now after (activation_of q e msg ∷ []) → HasSent before after (told_before before.machine before.items q space (e + 1))
-  HasSent-owed after msg is owes k =
+  pub HasAdded-owed : (after : Chronicled) (msg : Message) → space_of before.machine e ≡ space → owed now.machine now.items q e ≡ Some msg → HasAdded now after (activation_of q e msg ∷ []) → HasAdded before after (told_before before.machine before.items q space (e + 1))
+  HasAdded-owed after msg is owes k =
       let told = told_before before.machine before.items q space in
-      HasSent-more before now after (told e) (activation_of q e msg ∷ []) (told (e + 1)) h k
+      HasAdded-more before now after (told e) (activation_of q e msg ∷ []) (told (e + 1)) h k
       (told_before-owed before.machine before.items q space e msg is (sym owed-now ∙ owes))
 
-  pub HasSent-none_owed : space_of before.machine e ≡ space → owed now.machine now.items q e ≡ None → HasSent before now (told_before before.machine before.items q space (e + 1))
-  HasSent-none_owed is owes = rw (told_before-none before.machine before.items q space e is (sym owed-now ∙ owes)) h
+  pub HasAdded-none_owed : space_of before.machine e ≡ space → owed now.machine now.items q e ≡ None → HasAdded before now (told_before before.machine before.items q space (e + 1))
+  HasAdded-none_owed is owes = rw (told_before-none before.machine before.items q space e is (sym owed-now ∙ owes)) h
 
-  pub HasSent-other_space : space_of before.machine e ≢ space → HasSent before now (told_before before.machine before.items q space (e + 1))
-  HasSent-other_space is = rw (told_before-other before.machine before.items q space e is) h
+  pub HasAdded-other_space : space_of before.machine e ≢ space → HasAdded before now (told_before before.machine before.items q space (e + 1))
+  HasAdded-other_space is = rw (told_before-other before.machine before.items q space e is) h

@@ -5,7 +5,7 @@ use Rattle.plat_base.specs.Machine.{Machine}
 use Rattle.plat_base.specs.Pages.{entry_at, page_of}
 use Rattle.plat_base.specs.GuestRun.{Reach, reach_of}
 use Rattle.plat_base.specs.declared.items.Kind.{Kind}
-use Rattle.plat_laws.specs.Sound.{IsWithinLimits}
+use Rattle.plat_laws.specs.Guests.{IsWithinLimits}
 use Rattle.plat_laws.proofs.GuestLaws.{entry_at-found}
 use Rattle.plat_laws.proofs.Limits.{page_of-below, words-some}
 

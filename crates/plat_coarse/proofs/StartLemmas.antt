@@ -5,17 +5,20 @@ use Rattle.std.proofs.lemmas.List.{get_or-replicate, length-replicate}
 use Rattle.std.proofs.lemmas.List.Folds.{sum_by-replicate}
 use Rattle.plat_base.specs.Machine.{Machine}
 use Rattle.plat_base.specs.GuestRun.{guest_start}
-use Rattle.plat_base.specs.Coarse.{Coarse, cut_at, coarse_start, is_live, time_of, guest_now}
+use Rattle.plat_base.specs.Ends.{cut_at, is_live, time_of}
+use Rattle.plat_base.specs.Coarse.{Coarse, coarse_start}
+use Rattle.plat_base.specs.Turns.{guest_now}
 use Rattle.plat_base.specs.Verdicts.{policy_answer}
 use Rattle.plat_base.specs.declared.endings.Ended.{Ended}
 use Rattle.plat_guest.specs.GuestSeen.{GuestSeen, new_guest}
-use Rattle.plat_laws.specs.Sound.{IsWithinLimits, Sound}
-use Rattle.plat_laws.specs.Room.{room, IsRoomy}
-use Rattle.plat_laws.proofs.RoomLaws.{roomy_start}
+use Rattle.plat_laws.specs.Guests.{IsWithinLimits}
+use Rattle.plat_coarse_laws.specs.Sound.{Sound}
+use Rattle.plat_coarse_laws.specs.Room.{room, IsRoomy}
+use Rattle.plat_coarse_laws.proofs.RoomLaws.{roomy_start}
 use Rattle.plat_laws.proofs.EndLaws.{is_live-below}
-use Rattle.plat_laws.proofs.TurnLaws.{sound_start}
+use Rattle.plat_coarse_laws.proofs.TurnLaws.{sound_start}
 use Rattle.plat_coarse.specs.Advanced.{no_guest}
-use Rattle.plat_coarse.specs.Chronicle.{Chronicled}
+use Rattle.plat_chronicle.specs.Chronicle.{Chronicled}
 use Rattle.plat_coarse.specs.CoarseSeen.{RunsOn}
 use Rattle.plat_coarse.specs.Running.{state_of}
 

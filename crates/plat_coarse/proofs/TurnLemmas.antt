@@ -6,24 +6,27 @@ use Rattle.std.proofs.lemmas.List.{get_or_default, length-set, get_or-set_same, 
 use Rattle.plat_base.specs.Machine.{Machine}
 use Rattle.plat_base.specs.Alike.{same_end}
 use Rattle.plat_base.specs.GuestRun.{GuestRun, want_of, guest_after}
-use Rattle.plat_base.specs.Coarse.{Coarse, Made, is_live, ended_of, time_of, guest_now, made_by, with_made, end_after, turn, daemon}
+use Rattle.plat_base.specs.Ends.{is_live, ended_of, time_of, end_after}
+use Rattle.plat_base.specs.Coarse.{Coarse}
+use Rattle.plat_base.specs.Turns.{Made, guest_now, made_by, with_made, turn, daemon}
 use Rattle.plat_base.specs.Verdicts.{policy_answer}
 use Rattle.plat_base.specs.declared.guests.Want.{Want}
 use Rattle.plat_base.specs.declared.endings.End.{End}
 use Rattle.plat_base.specs.declared.endings.End.TheVariants as end
 use Rattle.plat_base.specs.declared.endings.Ended.{Ended}
 use Rattle.plat_guest.specs.GuestSeen.{GuestSeen, wanted_by, stepped}
-use Rattle.plat_laws.specs.Sound.{IsWithinLimits, Sound}
-use Rattle.plat_laws.specs.Room.{room, IsRoomy}
+use Rattle.plat_laws.specs.Guests.{IsWithinLimits}
+use Rattle.plat_coarse_laws.specs.Sound.{Sound}
+use Rattle.plat_coarse_laws.specs.Room.{room, IsRoomy}
 use Rattle.plat_laws.proofs.Limits.{nodes-most, budget-most}
-use Rattle.plat_laws.proofs.RunLaws.{made_in, turn-time, turn-ends, time_of-less, is_live-set_before, is_live-set_same}
-use Rattle.plat_laws.proofs.TurnLaws.{turn_sound, with_made_sound}
-use Rattle.plat_laws.proofs.RoomLaws.{turn_roomy, turn_room, room-most, daemon-longer}
+use Rattle.plat_coarse_laws.proofs.RunLaws.{made_in, turn-time, turn-ends, time_of-less, is_live-set_before, is_live-set_same}
+use Rattle.plat_coarse_laws.proofs.TurnLaws.{turn_sound, with_made_sound}
+use Rattle.plat_coarse_laws.proofs.RoomLaws.{turn_roomy, turn_room, room-most, daemon-longer}
 use Rattle.plat_laws.proofs.EndLaws.{is_live-below}
 use Rattle.plat_coarse.specs.declared.acts.Acted.{Acted}
 use Rattle.plat_coarse.specs.Acted.{value_found, end_within}
 use Rattle.plat_coarse.specs.Advanced.{no_guest, guests_after}
-use Rattle.plat_coarse.specs.Chronicle.{Chronicled}
+use Rattle.plat_chronicle.specs.Chronicle.{Chronicled}
 use Rattle.plat_coarse.specs.CoarseSeen.{RunsOn}
 use Rattle.plat_coarse.specs.Running.{state_of}
 use Rattle.plat_coarse.proofs.RoomLemmas.{product_most}

@@ -6,7 +6,7 @@ use Rattle.plat_base.specs.GuestRun.{reach_of}
 use Rattle.plat_base.specs.Done.{reads_word}
 use Rattle.plat_base.specs.Flat.{flat_value}
 use Rattle.plat_base.specs.Held.{held}
-use Rattle.plat_base.specs.Coarse.{Made, access_made}
+use Rattle.plat_base.specs.Turns.{Made, access_made}
 use Rattle.plat_base.specs.Verdicts.{policy_answer}
 use Rattle.plat_base.specs.declared.guests.Want.{Want}
 use Rattle.plat_base.specs.declared.guests.Want.TheVariants as want
@@ -14,7 +14,7 @@ use Rattle.plat_base.specs.declared.endings.End.{End}
 use Rattle.plat_base.specs.declared.endings.End.TheVariants as end
 use Rattle.plat_base.specs.declared.endings.Ended.{Ended}
 use Rattle.plat_base.specs.declared.items.Item.{Item}
-use Rattle.plat_coarse.specs.Chronicle.{Chronicled}
+use Rattle.plat_chronicle.specs.Chronicle.{Chronicled}
 use Rattle.plat_coarse.specs.Running.{state_of}
 use Rattle.plat_coarse.specs.Reached.{reach_seen}
 use Rattle.plat_coarse.specs.declared.accesses.Reached.{Reached}

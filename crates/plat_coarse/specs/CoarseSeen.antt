@@ -1,15 +1,18 @@
 -- a coarse run as its callers see it, and what the engine keeps of it
 use Rattle.std.specs.Prelude.{◌≡◌, ℕ, ◌+◌, ◌<◌, ◌≤◌, true, List, length, slice_index_or}
 use Rattle.plat_base.specs.Machine.{Machine}
-use Rattle.plat_base.specs.Coarse.{Coarse, is_live, time_of, guest_now}
+use Rattle.plat_base.specs.Ends.{is_live, time_of}
+use Rattle.plat_base.specs.Coarse.{Coarse}
+use Rattle.plat_base.specs.Turns.{guest_now}
 use Rattle.plat_base.specs.Verdicts.{policy_answer}
 use Rattle.plat_base.specs.declared.endings.End.{End}
 use Rattle.plat_base.specs.declared.endings.End.TheVariants as end
 use Rattle.plat_base.specs.declared.endings.Ended.{Ended}
 use Rattle.plat_guest.specs.GuestSeen.{GuestSeen}
-use Rattle.plat_laws.specs.Sound.{IsWithinLimits, Sound}
-use Rattle.plat_laws.specs.Room.{room, IsRoomy}
-use Rattle.plat_coarse.specs.Chronicle.{Chronicled}
+use Rattle.plat_laws.specs.Guests.{IsWithinLimits}
+use Rattle.plat_coarse_laws.specs.Sound.{Sound}
+use Rattle.plat_coarse_laws.specs.Room.{room, IsRoomy}
+use Rattle.plat_chronicle.specs.Chronicle.{Chronicled}
 use Rattle.plat_coarse.specs.Advanced.{no_guest}
 use Rattle.plat_coarse.specs.Running.{state_of}
 use Rattle.plat_coarse.specs.declared.turns.Turned.{Turned}

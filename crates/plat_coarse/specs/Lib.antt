@@ -1,9 +1,3 @@
-pub mod Pages
-pub mod Spaces
-pub mod Removals
-pub mod Kinds
-pub mod Translations
-pub mod Chronicle
 pub mod Nearer
 pub mod Running
 pub mod Reached

@@ -3,7 +3,8 @@ use Rattle.std.specs.Prelude.{ℕ, Option, Some, None, if◌then◌else◌}
 use Rattle.plat_base.specs.Verdicts.{Answer}
 use Rattle.plat_base.specs.Machine.{Machine}
 use Rattle.plat_base.specs.GuestRun.{Reach}
-use Rattle.plat_base.specs.Coarse.{is_starved, decided}
+use Rattle.plat_base.specs.Frames.{is_starved}
+use Rattle.plat_base.specs.Turns.{decided}
 use Rattle.plat_base.specs.declared.items.Cause.{Cause}
 use Rattle.plat_base.specs.declared.items.Item.{Item}
 use Rattle.plat_base.specs.declared.policies.Decision.{Decision}

@@ -1,18 +1,17 @@
 //! Accesses of flat memory.
 ghost use Rattle.std.specs.Prelude.{◌≡◌, ◌+◌, ◌%◌, ◌/◌, ◌<◌, ◌≤◌, ◌++◌, ◌∷◌, [], length, Some, true};
-ghost use Rattle.plat_base.specs.Coarse.{access_by, cause_of as cause_of_kind, writes_made as writes_of};
+ghost use Rattle.plat_base.specs.Accesses.{access_by, writes_made as writes_of};
 ghost use Rattle.plat_base.specs.Done.{new_value as new_value_of};
 ghost use Rattle.plat_base.specs.Flat.{flat_value, flat_writes};
 ghost use Rattle.plat_base.specs.GuestRun.{reach_of as reach_of_access};
-ghost use Rattle.plat_base.specs.Held.{has_right as has_right_of};
 ghost use Rattle.plat_base.specs.Pages.{entry_at};
 ghost use Rattle.plat_base.specs.Rules.{is_legal};
 ghost use Rattle.plat_base.specs.Seen.{machine};
 ghost use Rattle.plat_base.specs.declared.items.Item.TheVariants as item;
 ghost use Rattle.plat_coarse.specs.Reached.{reach_seen};
 
-use crate::chronicle::Chronicle;
-use plat_base::{Access, Cause, Config, Frame, Kind, Right, Translation};
+use plat_base::{Access, Config, Frame, Kind};
+use plat_chronicle::Chronicle;
 
 /// An access that a guest wants, with the page and word that its address leads to.
 #[derive(Clone, Copy, Debug)]
@@ -41,26 +40,9 @@ pub fn reach_of(
         kind,
         space,
         addr,
-        page: cfg.entries.as_slice()[entry as usize].page,
+        page: cfg.page_of(entry),
         word: addr % cfg.words,
         operand,
-    }
-}
-
-/// Whether a translation is there with enough right for an access.
-pub fn has_right(kind: Kind, translation: Option<Translation>) -> bool
-    ensures { result ≡ has_right_of kind translation }
-{
-    translation.is_some_and(|held| kind == Kind::Load || held.grant.right == Right::Write)
-}
-
-/// Why an access faults.
-pub fn cause_of(kind: Kind) -> Cause
-    ensures { result ≡ cause_of_kind kind }
-{
-    match kind {
-        Kind::Load => Cause::Read,
-        Kind::Store | Kind::Add => Cause::Write,
     }
 }
 

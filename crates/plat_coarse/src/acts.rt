@@ -1,23 +1,25 @@
 //! What one turn does to the history and to the ends.
 ghost use Rattle.std.specs.Prelude.{◌≡◌, ◌≢◌, ℕ, ◌+◌, ◌/◌, ◌<◌, ◌≤◌, ◌++◌, None, length, true, slice_set};
-ghost use Rattle.plat_base.specs.Coarse.{made_by, daemon as daemon_of, ended_of};
+ghost use Rattle.plat_base.specs.Ends.{ended_of};
 ghost use Rattle.plat_base.specs.Decide.{is_dir};
 ghost use Rattle.plat_base.specs.Directories.{dir_of};
 ghost use Rattle.plat_base.specs.Pages.{entry_at as entry_at_of};
 ghost use Rattle.plat_base.specs.Verdicts.{policy_answer};
-ghost use Rattle.plat_laws.specs.Sound.{IsWithinLimits, Sound};
+ghost use Rattle.plat_laws.specs.Guests.{IsWithinLimits};
+ghost use Rattle.plat_coarse_laws.specs.Sound.{Sound};
 ghost use Rattle.plat_coarse.specs.Acted.{value_found, IsReachable, made_through, end_within, wants_more};
 ghost use Rattle.plat_coarse.specs.Advanced.{no_guest, guests_after};
 ghost use Rattle.plat_guest.specs.GuestSeen.{wanted_by};
 ghost use Rattle.plat_base.specs.Seen.{machine};
 ghost use Rattle.std.specs.Prelude.{slice_index_or};
-ghost use Rattle.plat_coarse.specs.Running.{state_of};
+ghost use Rattle.plat_chronicle.specs.Chronicle.{HasAdded, HasRoom};
+ghost use Rattle.plat_coarse.specs.Running.{state_of, made_now, daemon_now};
 
-use crate::accesses::{Reached, access_of, has_right, reach_of};
-use crate::chronicle::Chronicle;
+use crate::accesses::{Reached, access_of, reach_of};
 use crate::faults::{fault, thaw};
 use crate::messages::switch;
 use plat_base::{Config, End, Ended, Kind, PolicyKind, Want};
+use plat_chronicle::{Chronicle, has_right};
 use plat_guest::{Guest, entry_at};
 
 /// What a turn did to its processor: how it ended, Cut where it did not, and the word that a load or fetch-and-add found.
@@ -41,12 +43,9 @@ fn access_through(
     requires page { reach.now.page < chronicle.old.machine.pages }
     requires word { reach.now.word < chronicle.old.machine.words }
     requires dirs { is_dir chronicle.old.machine (dir_of chronicle.old.items reach.now.page) ≡ true }
-    requires spare { length (made_through chronicle.old ends.now q now entry reach.now).items ≤ chronicle.old.spare }
-    requires few { length chronicle.old.items + length (made_through chronicle.old ends.now q now entry reach.now).items ≤ 2621440 }
+    requires room { HasRoom chronicle.old (made_through chronicle.old ends.now q now entry reach.now).items }
     ensures end { result ≡ (made_through chronicle.old ends.now q now entry reach.now).end }
-    ensures machine { chronicle.new.machine ≡ chronicle.old.machine }
-    ensures items { chronicle.new.items ≡ chronicle.old.items ++ (made_through chronicle.old ends.now q now entry reach.now).items }
-    ensures spare { chronicle.new.spare + length (made_through chronicle.old ends.now q now entry reach.now).items ≡ chronicle.old.spare }
+    ensures added { HasAdded chronicle.old chronicle.new (made_through chronicle.old ends.now q now entry reach.now).items }
 {
     let held = chronicle.held(q, entry);
     match held {
@@ -79,13 +78,10 @@ fn access(
     requires processor { q < chronicle.old.machine.nodes }
     requires dirs { (p : ℕ) → p < chronicle.old.machine.pages → is_dir chronicle.old.machine (dir_of chronicle.old.items p) ≡ true }
     requires reached { entry_at_of chronicle.old.machine space (addr / chronicle.old.machine.words) ≢ None }
-    requires spare { length (made_by chronicle.old.machine (policy_answer chronicle.old.machine.policy) (state_of chronicle.old ends.now) q now (Want.Access kind space addr operand)).items ≤ chronicle.old.spare }
-    requires few { length chronicle.old.items + length (made_by chronicle.old.machine (policy_answer chronicle.old.machine.policy) (state_of chronicle.old ends.now) q now (Want.Access kind space addr operand)).items ≤ 2621440 }
-    ensures end { result.end ≡ (made_by chronicle.old.machine (policy_answer chronicle.old.machine.policy) (state_of chronicle.old ends.now) q now (Want.Access kind space addr operand)).end }
+    requires room { HasRoom chronicle.old (made_now chronicle.old ends.now q now (Want.Access kind space addr operand)).items }
+    ensures end { result.end ≡ (made_now chronicle.old ends.now q now (Want.Access kind space addr operand)).end }
     ensures value { result.value ≡ value_found chronicle.old.machine chronicle.old.items (Want.Access kind space addr operand) }
-    ensures machine { chronicle.new.machine ≡ chronicle.old.machine }
-    ensures items { chronicle.new.items ≡ chronicle.old.items ++ (made_by chronicle.old.machine (policy_answer chronicle.old.machine.policy) (state_of chronicle.old ends.now) q now (Want.Access kind space addr operand)).items }
-    ensures spare { chronicle.new.spare + length (made_by chronicle.old.machine (policy_answer chronicle.old.machine.policy) (state_of chronicle.old ends.now) q now (Want.Access kind space addr operand)).items ≡ chronicle.old.spare }
+    ensures added { HasAdded chronicle.old chronicle.new (made_now chronicle.old ends.now q now (Want.Access kind space addr operand)).items }
 {
     let cfg = chronicle.config();
     let Some(entry) = entry_at(cfg, space, addr / cfg.words) else {
@@ -105,13 +101,10 @@ pub fn act(chronicle: &mut Chronicle, ends: &[Ended], q: u32, now: u32, want: Wa
     requires processor { q < chronicle.old.machine.nodes }
     requires dirs { (p : ℕ) → p < chronicle.old.machine.pages → is_dir chronicle.old.machine (dir_of chronicle.old.items p) ≡ true }
     requires reached { IsReachable chronicle.old.machine want }
-    requires spare { length (made_by chronicle.old.machine (policy_answer chronicle.old.machine.policy) (state_of chronicle.old ends.now) q now want).items ≤ chronicle.old.spare }
-    requires few { length chronicle.old.items + length (made_by chronicle.old.machine (policy_answer chronicle.old.machine.policy) (state_of chronicle.old ends.now) q now want).items ≤ 2621440 }
-    ensures end { result.end ≡ (made_by chronicle.old.machine (policy_answer chronicle.old.machine.policy) (state_of chronicle.old ends.now) q now want).end }
+    requires room { HasRoom chronicle.old (made_now chronicle.old ends.now q now want).items }
+    ensures end { result.end ≡ (made_now chronicle.old ends.now q now want).end }
     ensures value { result.value ≡ value_found chronicle.old.machine chronicle.old.items want }
-    ensures machine { chronicle.new.machine ≡ chronicle.old.machine }
-    ensures items { chronicle.new.items ≡ chronicle.old.items ++ (made_by chronicle.old.machine (policy_answer chronicle.old.machine.policy) (state_of chronicle.old ends.now) q now want).items }
-    ensures spare { chronicle.new.spare + length (made_by chronicle.old.machine (policy_answer chronicle.old.machine.policy) (state_of chronicle.old ends.now) q now want).items ≡ chronicle.old.spare }
+    ensures added { HasAdded chronicle.old chronicle.new (made_now chronicle.old ends.now q now want).items }
 {
     match want {
         Want::Access {
@@ -174,10 +167,10 @@ pub fn settle(ends: &mut Vec<Ended>, q: u32, end: End, budget: u32) -> End
 pub fn daemon(chronicle: &mut Chronicle, ends: &[Ended], now: u32)
     requires machine { IsWithinLimits chronicle.old.machine }
     requires sound { Sound chronicle.old.machine (policy_answer chronicle.old.machine.policy) (state_of chronicle.old ends.now) }
-    requires spare { length (daemon_of chronicle.old.machine (policy_answer chronicle.old.machine.policy) now (state_of chronicle.old ends.now)).history ≤ length chronicle.old.items + chronicle.old.spare }
-    requires few { length (daemon_of chronicle.old.machine (policy_answer chronicle.old.machine.policy) now (state_of chronicle.old ends.now)).history ≤ 2621440 }
+    requires spare { length (daemon_now chronicle.old ends.now now).history ≤ length chronicle.old.items + chronicle.old.spare }
+    requires few { length (daemon_now chronicle.old ends.now now).history ≤ 2621440 }
     ensures machine { chronicle.new.machine ≡ chronicle.old.machine }
-    ensures items { state_of chronicle.new ends.now ≡ daemon_of chronicle.old.machine (policy_answer chronicle.old.machine.policy) now (state_of chronicle.old ends.now) }
+    ensures items { state_of chronicle.new ends.now ≡ daemon_now chronicle.old ends.now now }
     ensures spare { chronicle.new.spare + length chronicle.new.items ≡ chronicle.old.spare + length chronicle.old.items }
 {
     let PolicyKind::Platinum { t2, .. } = chronicle.config().policy else {

@@ -1,20 +1,20 @@
 //! Faults and thaws: the changes of pages.
 ghost use Rattle.std.specs.Prelude.{◌≡◌, ◌≢◌, ℕ, ◌+◌, ◌<◌, ◌≤◌, ◌++◌, ◌∷◌, [], length, true, None, Some};
-ghost use Rattle.plat_base.specs.Coarse.{change_by, fault_items, fault_made, got_frame as got_frame_of, right_of as right_of_cause, thaw as thaw_of};
+ghost use Rattle.plat_base.specs.Frames.{got_frame as got_frame_of};
+ghost use Rattle.plat_base.specs.Turns.{change_by};
 ghost use Rattle.std.specs.Prelude.{◌&&◌, is_none};
 ghost use Rattle.plat_base.specs.Decide.{is_dir, is_empty, asks as asks_of};
 ghost use Rattle.plat_base.specs.Directories.{dir_of};
 ghost use Rattle.plat_base.specs.Verdicts.{policy_answer};
-ghost use Rattle.plat_coarse.specs.Reached.{reach_seen, decided_if_fed};
-ghost use Rattle.plat_coarse.specs.Running.{state_of};
+ghost use Rattle.plat_coarse.specs.Reached.{decided_if_fed};
+ghost use Rattle.plat_chronicle.specs.Chronicle.{HasAdded, HasRoom};
+ghost use Rattle.plat_coarse.specs.Running.{state_of, fault_items_now, fault_made_now, thawed_now};
 
-use crate::accesses::{Reached, access_of, cause_of};
-use crate::chronicle::Chronicle;
+use crate::accesses::{Reached, access_of};
 use crate::frames::{free_frame, nearest_free};
 use crate::messages::interrupt;
-use plat_base::{
-    Cause, Change, Decision, Dir, End, Ended, Frame, Grant, Policy, Right, State, Verdict,
-};
+use plat_base::{Cause, Change, Decision, Dir, End, Ended, Frame, Grant, Policy, State, Verdict};
+use plat_chronicle::Chronicle;
 use plat_policy::decide;
 
 /// Whether the policy is asked about a fault: the page has copies, and none on the node.
@@ -82,16 +82,6 @@ fn decision_of(chronicle: &Chronicle, q: u32, page: u32, now: u32, cause: Cause)
     ))
 }
 
-/// The right that a fault is granted.
-fn right_of(cause: Cause) -> Right
-    ensures { result ≡ right_of_cause cause }
-{
-    match cause {
-        Cause::Write => Right::Write,
-        Cause::Read | Cause::Thaw => Right::Read,
-    }
-}
-
 /// The change of a page by a decision.
 fn change_of(
     chronicle: &Chronicle,
@@ -133,17 +123,14 @@ fn add_fault(
     requires entry { entry < length chronicle.old.machine.entries }
     requires page { reach.now.page < chronicle.old.machine.pages }
     requires word { reach.now.word < chronicle.old.machine.words }
-    requires spare { length (fault_items chronicle.old.machine (state_of chronicle.old ends.now) q now entry (reach_seen reach.now) decision.now) ≤ chronicle.old.spare }
-    requires few { length chronicle.old.items + length (fault_items chronicle.old.machine (state_of chronicle.old ends.now) q now entry (reach_seen reach.now) decision.now) ≤ 2621440 }
-    ensures machine { chronicle.new.machine ≡ chronicle.old.machine }
-    ensures items { chronicle.new.items ≡ chronicle.old.items ++ fault_items chronicle.old.machine (state_of chronicle.old ends.now) q now entry (reach_seen reach.now) decision.now }
-    ensures spare { chronicle.new.spare + length (fault_items chronicle.old.machine (state_of chronicle.old ends.now) q now entry (reach_seen reach.now) decision.now) ≡ chronicle.old.spare }
+    requires room { HasRoom chronicle.old (fault_items_now chronicle.old ends.now q now entry reach.now decision.now) }
+    ensures { HasAdded chronicle.old chronicle.new (fault_items_now chronicle.old ends.now q now entry reach.now decision.now) }
 {
-    let cause = cause_of(reach.kind);
+    let cause = reach.kind.cause();
     let grant = Grant {
         entry,
         frame: decision.frame,
-        right: right_of(cause),
+        right: cause.right(),
     };
     let access = access_of(
         chronicle,
@@ -173,14 +160,11 @@ pub fn fault(
     requires page { reach.now.page < chronicle.old.machine.pages }
     requires word { reach.now.word < chronicle.old.machine.words }
     requires dirs { is_dir chronicle.old.machine (dir_of chronicle.old.items reach.now.page) ≡ true }
-    requires spare { length (fault_made chronicle.old.machine (policy_answer chronicle.old.machine.policy) (state_of chronicle.old ends.now) q now entry (reach_seen reach.now)).items ≤ chronicle.old.spare }
-    requires few { length chronicle.old.items + length (fault_made chronicle.old.machine (policy_answer chronicle.old.machine.policy) (state_of chronicle.old ends.now) q now entry (reach_seen reach.now)).items ≤ 2621440 }
-    ensures end { result ≡ (fault_made chronicle.old.machine (policy_answer chronicle.old.machine.policy) (state_of chronicle.old ends.now) q now entry (reach_seen reach.now)).end }
-    ensures machine { chronicle.new.machine ≡ chronicle.old.machine }
-    ensures items { chronicle.new.items ≡ chronicle.old.items ++ (fault_made chronicle.old.machine (policy_answer chronicle.old.machine.policy) (state_of chronicle.old ends.now) q now entry (reach_seen reach.now)).items }
-    ensures spare { chronicle.new.spare + length (fault_made chronicle.old.machine (policy_answer chronicle.old.machine.policy) (state_of chronicle.old ends.now) q now entry (reach_seen reach.now)).items ≡ chronicle.old.spare }
+    requires room { HasRoom chronicle.old (fault_made_now chronicle.old ends.now q now entry reach.now).items }
+    ensures end { result ≡ (fault_made_now chronicle.old ends.now q now entry reach.now).end }
+    ensures added { HasAdded chronicle.old chronicle.new (fault_made_now chronicle.old ends.now q now entry reach.now).items }
 {
-    match decision_of(chronicle, q, reach.page, now, cause_of(reach.kind)) {
+    match decision_of(chronicle, q, reach.page, now, reach.kind.cause()) {
         None => End::NoFrames,
         Some(decision) => {
             add_fault(chronicle, ends, q, now, entry, reach, &decision);
@@ -193,10 +177,10 @@ pub fn fault(
 pub fn thaw(chronicle: &mut Chronicle, ends: &[Ended], page: u32, now: u32)
     requires page { page < chronicle.old.machine.pages }
     requires dirs { is_dir chronicle.old.machine (dir_of chronicle.old.items page) ≡ true }
-    requires spare { length (thaw_of chronicle.old.machine (policy_answer chronicle.old.machine.policy) now (state_of chronicle.old ends.now) page).history ≤ length chronicle.old.items + chronicle.old.spare }
-    requires few { length (thaw_of chronicle.old.machine (policy_answer chronicle.old.machine.policy) now (state_of chronicle.old ends.now) page).history ≤ 2621440 }
+    requires spare { length (thawed_now chronicle.old ends.now now page).history ≤ length chronicle.old.items + chronicle.old.spare }
+    requires few { length (thawed_now chronicle.old ends.now now page).history ≤ 2621440 }
     ensures machine { chronicle.new.machine ≡ chronicle.old.machine }
-    ensures items { state_of chronicle.new ends.now ≡ thaw_of chronicle.old.machine (policy_answer chronicle.old.machine.policy) now (state_of chronicle.old ends.now) page }
+    ensures items { state_of chronicle.new ends.now ≡ thawed_now chronicle.old ends.now now page }
     ensures spare { chronicle.new.spare + length chronicle.new.items ≡ chronicle.old.spare + length chronicle.old.items }
 {
     let dir = chronicle.dir(page);

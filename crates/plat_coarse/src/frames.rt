@@ -1,11 +1,11 @@
 //! Free frames: those that no directory names.
 ghost use Rattle.std.specs.Prelude.{◌≡◌, ℕ, ◌<◌, ◌==◌, if◌then◌else◌};
 ghost use Rattle.std.specs.Int.{bit_at};
-ghost use Rattle.plat_base.specs.Coarse.{is_used, free_frame, nearest_free};
+ghost use Rattle.plat_base.specs.Frames.{is_used, free_frame, nearest_free};
 ghost use Rattle.plat_coarse.specs.Nearer.{nearer_of};
 
-use crate::chronicle::Chronicle;
 use plat_base::Frame;
+use plat_chronicle::Chronicle;
 use plat_policy::distance;
 
 /// The set with this number, if it is below 64: the bit of each number in it is set.

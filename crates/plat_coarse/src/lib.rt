@@ -3,16 +3,11 @@
 
 mod accesses;
 mod acts;
-mod chronicle;
 mod faults;
 mod frames;
 mod messages;
-mod pages;
-mod removals;
-mod spaces;
 #[cfg(test)]
 mod tests;
-mod translations;
 mod turns;
 
 pub use turns::{Coarse, Turned, most_turns};

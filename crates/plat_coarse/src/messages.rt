@@ -1,12 +1,14 @@
 //! Messages: the shootdown of a page by interrupts, and what waits for a processor that switches.
 ghost use Rattle.std.specs.Prelude.{◌≡◌, ◌+◌, ◌<◌, ◌≤◌, length, ◌++◌, Some};
-ghost use Rattle.plat_base.specs.Coarse.{is_live as is_live_of, is_target as is_target_of, interrupts, owed_for, owed, switch_items, removes_some, message_of};
+ghost use Rattle.plat_base.specs.Ends.{is_live as is_live_of};
+ghost use Rattle.plat_base.specs.Messages.{is_target as is_target_of, owed_for, owed, removes_some, message_of};
 ghost use Rattle.plat_base.specs.Seen.{machine};
 ghost use Rattle.plat_base.specs.Pages.{page_of, space_of};
-ghost use Rattle.plat_coarse.specs.Running.{state_of, interrupts_for};
+ghost use Rattle.plat_chronicle.specs.Chronicle.{HasAdded, HasRoom};
+ghost use Rattle.plat_coarse.specs.Running.{state_of, entry_interrupts_now, interrupts_now, switch_items_now};
 
-use crate::chronicle::Chronicle;
 use plat_base::{Applied, Config, End, Ended, Message, Moment, Removed, Switch, Translation};
+use plat_chronicle::Chronicle;
 
 /// Whether a change removes something.
 fn removes_some(removed: Removed) -> bool
@@ -48,7 +50,7 @@ fn space_of_entry(cfg: &Config, entry: u32) -> u32
     requires { entry < length cfg.now.entries.items }
     ensures { result ≡ space_of (machine cfg.now) entry }
 {
-    cfg.entries.as_slice()[entry as usize].space
+    cfg.space_of(entry)
 }
 
 /// The page that an entry leads to.
@@ -57,7 +59,7 @@ fn page_of_entry(cfg: &Config, entry: u32) -> u32
     ensures page { result ≡ page_of (machine cfg.now) entry }
     ensures within { result < cfg.now.pages }
 {
-    cfg.entries.as_slice()[entry as usize].page
+    cfg.page_of(entry)
 }
 
 /// Whether processor `r`, other than the initiator, is live, active in the entry's space, and holds the entry.
@@ -82,11 +84,8 @@ fn interrupt_entry(
     removed: Removed,
 )
     requires entry { entry < length chronicle.old.machine.entries }
-    requires spare { length (interrupts_for chronicle.old.machine (state_of chronicle.old ends.now) initiator removed entry) ≤ chronicle.old.spare }
-    requires few { length chronicle.old.items + length (interrupts_for chronicle.old.machine (state_of chronicle.old ends.now) initiator removed entry) ≤ 2621440 }
-    ensures machine { chronicle.new.machine ≡ chronicle.old.machine }
-    ensures items { chronicle.new.items ≡ chronicle.old.items ++ interrupts_for chronicle.old.machine (state_of chronicle.old ends.now) initiator removed entry }
-    ensures spare { chronicle.new.spare + length (interrupts_for chronicle.old.machine (state_of chronicle.old ends.now) initiator removed entry) ≡ chronicle.old.spare }
+    requires room { HasRoom chronicle.old (entry_interrupts_now chronicle.old ends.now initiator entry removed) }
+    ensures { HasAdded chronicle.old chronicle.new (entry_interrupts_now chronicle.old ends.now initiator entry removed) }
 {
     let message = message_of_removed(removed);
     for r in 0..chronicle.config().nodes {
@@ -110,11 +109,8 @@ pub fn interrupt(
     page: u32,
     removed: Removed,
 )
-    requires spare { length (interrupts chronicle.old.machine (state_of chronicle.old ends.now) initiator page removed) ≤ chronicle.old.spare }
-    requires few { length chronicle.old.items + length (interrupts chronicle.old.machine (state_of chronicle.old ends.now) initiator page removed) ≤ 2621440 }
-    ensures machine { chronicle.new.machine ≡ chronicle.old.machine }
-    ensures items { chronicle.new.items ≡ chronicle.old.items ++ interrupts chronicle.old.machine (state_of chronicle.old ends.now) initiator page removed }
-    ensures spare { chronicle.new.spare + length (interrupts chronicle.old.machine (state_of chronicle.old ends.now) initiator page removed) ≡ chronicle.old.spare }
+    requires room { HasRoom chronicle.old (interrupts_now chronicle.old ends.now initiator page removed) }
+    ensures { HasAdded chronicle.old chronicle.new (interrupts_now chronicle.old ends.now initiator page removed) }
 {
     if !removes_some(removed) {
         return;
@@ -154,11 +150,8 @@ fn owed_message(chronicle: &Chronicle, q: u32, entry: u32) -> Option<Message>
 /// Switches processor `q` to a space, and applies what waits for the entries of that space, in rising number.
 pub fn switch(chronicle: &mut Chronicle, q: u32, space: u32)
     requires processor { q < chronicle.old.machine.nodes }
-    requires spare { length (switch_items chronicle.old.machine chronicle.old.items q space) ≤ chronicle.old.spare }
-    requires few { length chronicle.old.items + length (switch_items chronicle.old.machine chronicle.old.items q space) ≤ 2621440 }
-    ensures machine { chronicle.new.machine ≡ chronicle.old.machine }
-    ensures items { chronicle.new.items ≡ chronicle.old.items ++ switch_items chronicle.old.machine chronicle.old.items q space }
-    ensures spare { chronicle.new.spare + length (switch_items chronicle.old.machine chronicle.old.items q space) ≡ chronicle.old.spare }
+    requires room { HasRoom chronicle.old (switch_items_now chronicle.old q space) }
+    ensures { HasAdded chronicle.old chronicle.new (switch_items_now chronicle.old q space) }
 {
     chronicle.add_switch(Switch { actor: q, space });
     for entry in 0..entry_count(chronicle.config()) {

@@ -1,16 +1,18 @@
 //! The coarse run, turn by turn.
 ghost use Rattle.std.specs.Prelude.{◌≡◌, ◌+◌, ◌*◌, ◌<◌, ◌≤◌, ◌++◌, [], length, true, IfOk, IsTrue};
-ghost use Rattle.plat_base.specs.Coarse.{coarse_start, is_live as is_live_of, ended_of, turn as turn_of};
+ghost use Rattle.plat_base.specs.Ends.{is_live as is_live_of, ended_of};
+ghost use Rattle.plat_base.specs.Coarse.{coarse_start};
+ghost use Rattle.plat_base.specs.Turns.{turn as turn_of};
 ghost use Rattle.plat_base.specs.Rules.{Good};
 ghost use Rattle.plat_base.specs.Seen.{machine};
 ghost use Rattle.plat_base.specs.Verdicts.{policy_answer};
-ghost use Rattle.plat_laws.specs.Room.{room as room_of, passes};
+ghost use Rattle.plat_coarse_laws.specs.Room.{room as room_of, passes};
 ghost use Rattle.plat_coarse.specs.CoarseSeen.{turned_of};
 
 use crate::acts::{act, advance, daemon, settle};
-use crate::chronicle::Chronicle;
 use crate::messages::is_live;
 use plat_base::{Config, End, Ended, Finished, Item, List, OutOfMemory, PolicyKind};
+use plat_chronicle::Chronicle;
 use plat_guest::Guest;
 use std::alloc::Global;
 use std::marker::Model;

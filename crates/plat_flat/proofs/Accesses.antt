@@ -16,7 +16,7 @@ use Rattle.plat_base.specs.declared.items.Item.TheVariants as item
 use Rattle.plat_base.specs.declared.items.Kind.{Kind}
 use Rattle.plat_base.specs.declared.items.Kind.TheVariants as kind
 use Rattle.plat_base.specs.contracts.items.Kind.{the_type}
-use Rattle.plat_base.specs.Coarse.{writes_made}
+use Rattle.plat_base.specs.Accesses.{writes_made}
 use denote.Enum.Bare.{sameb}
 use Rattle.plat_flat.specs.FlatSeen.{FlatSeen, IsFlatOf, FitsPages, place}
 

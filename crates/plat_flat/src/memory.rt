@@ -5,7 +5,7 @@ ghost use Rattle.plat_base.specs.Seen.{machine};
 ghost use Rattle.plat_base.specs.declared.items.Item.{Item as AnyItem};
 ghost use Rattle.std.specs.Prelude.{slice_index};
 ghost use Rattle.plat_base.specs.Rules.{is_legal};
-ghost use Rattle.plat_base.specs.Coarse.{writes_made as writes_of};
+ghost use Rattle.plat_base.specs.Accesses.{writes_made as writes_of};
 ghost use Rattle.plat_base.specs.declared.items.Item.TheVariants as item;
 ghost use Rattle.plat_flat.specs.FlatSeen.{IsFlatOf, is_legal_item, place};
 

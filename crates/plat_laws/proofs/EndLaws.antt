@@ -1,6 +1,6 @@
 -- the ends of a guest, items that are none of a processor's, and when nothing is bad
 use Rattle.std.proofs.Common.{◌≡◌, ℕ, zero, suc, ◌+◌, ◌<◌, ◌≤◌, Bool, true, false, List, [], ◌∷◌, ◌++◌, length, Option, Some, None, refl, arith, add-one, add-zero, append_assoc, if◌then◌else◌}
-use Rattle.std.specs.Prelude.{◌==◌, ◌&&◌, ◌||◌, not, nat_lt, ◌/◌, unwrap_or}
+use Rattle.std.specs.Prelude.{◌==◌, ◌&&◌, ◌||◌, not, nat_lt, ◌/◌}
 use Rattle.std.specs.List.{fold, filter_map, cons_option, list_any, find, range_with_len}
 use Rattle.std.proofs.lemmas.List.{append-nil}
 use Rattle.std.proofs.lemmas.List.Sums.{fold-append}
@@ -10,8 +10,8 @@ use Rattle.plat_base.specs.Machine.{Machine}
 use Rattle.plat_base.specs.Pages.{entry_at, numbers}
 use Rattle.plat_base.specs.GuestRun.{GuestRun, Outcome, GoesOn, HasHalted, HasTrapped, want_of, guest_run}
 use Rattle.plat_base.specs.Done.{Accessed, Switched, value_of, values_of, done_of, operations_of}
-use Rattle.plat_base.specs.Held.{held, active, active_after, has_right}
-use Rattle.plat_base.specs.Coarse.{ended_of, is_live}
+use Rattle.plat_base.specs.Held.{active, active_after, has_right, held_through}
+use Rattle.plat_base.specs.Ends.{ended_of, is_live}
 use Rattle.plat_base.specs.Alike.{same_end}
 use Rattle.plat_base.specs.Rules.{stands, has_made, same_outcome, wants_right, wants_operation, is_end, is_in_order, bad_at, bad_or, bad_rule, bad_after, bad_ends, first_bad}
 use Rattle.plat_base.specs.declared.endings.End.{End}
@@ -23,7 +23,7 @@ use Rattle.plat_base.specs.declared.guests.Want.TheVariants as want
 use Rattle.plat_base.specs.declared.items.Item.{Item}
 use Rattle.plat_base.specs.declared.items.Item.TheVariants as item
 use Rattle.plat_base.specs.declared.items.Kind.{Kind}
-use Rattle.plat_laws.specs.Sound.{IsGuest}
+use Rattle.plat_laws.specs.Guests.{IsGuest}
 use Rattle.plat_laws.proofs.Limits.{and-left, and-right}
 use Rattle.plat_laws.proofs.GuestLaws.{fewer_turns, guest_run-next_same, IsGuest-not_mine}
 
@@ -86,7 +86,7 @@ is_end-cut m items (suc t) q g =
 pub is_end-no_frames :
     (m : Machine) (items : List Item) (t q : ℕ) (k : Kind) (sp a o : ℕ) → IsGuest m items t q
     → want_of m q (guest_run m q (values_of q items) t).state ≡ want.Access k sp a o
-    → has_right k (held m items q (unwrap_or (entry_at m sp (a / m.words)) 0)) ≡ false → m.frames < m.pages
+    → has_right k (held_through m items q (entry_at m sp (a / m.words))) ≡ false → m.frames < m.pages
     → is_end m items q end.NoFrames (t + 1) ≡ true
 is_end-no_frames m items t q k sp a o g w h f =
     let r = guest_run m q (values_of q items) t in

@@ -1,17 +1,17 @@
 -- the run of one guest: fewer and more turns, more values, the next operation, one more turn of it, and what an access reaches
-use Rattle.std.proofs.Common.{◌≡◌, ℕ, zero, suc, ◌+◌, ◌<◌, ◌≤◌, Bool, true, false, List, [], ◌∷◌, ◌++◌, length, Option, Some, None, refl, arith, add-one, add-zero, add-suc, append_assoc, sym, ◌-◌, if◌then◌else◌, get_or, ap}
+use Rattle.std.proofs.Common.{◌≡◌, ℕ, zero, suc, ◌+◌, ◌<◌, ◌≤◌, Bool, true, false, List, [], ◌∷◌, ◌++◌, length, Option, Some, None, refl, arith, add-one, add-zero, add-suc, append_assoc, sym, ◌-◌, if◌then◌else◌, get_or}
 use Rattle.std.specs.Prelude.{slice_get, slice_index_or, is_some, ◌/◌, ◌%◌, ◌==◌, ◌&&◌, unwrap_or}
 use Rattle.std.specs.List.{position_from}
 use Rattle.std.proofs.lemmas.List.{append-nil, length-append}
 use Rattle.std.proofs.lemmas.List.Elements.{filter_map-append}
 use Rattle.std.proofs.lemmas.Bool.Decides.{nat_tests}
 use Rattle.plat_base.specs.Machine.{Machine, Program}
-use Rattle.plat_base.specs.Pages.{program_of, entry_at, page_of, space_of, no_entry}
+use Rattle.plat_base.specs.Pages.{program_of, entry_at, page_of, space_of, no_entry, entry_reached}
 use Rattle.plat_base.specs.GuestRun.{GuestRun, GuestState, Reach, Operation, Reaches, Switches, Outcome, GoesOn, HasHalted, HasTrapped, want_of, guest_after, values_taken, value_for, reach_of, with_turn, with_access, guest_does, guest_more, guest_run, passed, gone, executed, executed_next, wanted, wanted_next, address, register, target}
 use Rattle.plat_base.specs.Done.{Done, Accessed, Switched, value_of, values_of, done_of, operations_of, is_done_access, are_done, reads_word}
 use Rattle.plat_base.specs.Held.{active}
 use Rattle.plat_base.specs.Rules.{next_operation}
-use Rattle.plat_laws.specs.Sound.{IsGuest, IsWithinLimits}
+use Rattle.plat_laws.specs.Guests.{IsGuest, IsWithinLimits}
 use Rattle.plat_laws.proofs.Limits.{page_of-below, words-some}
 use Rattle.plat_base.specs.declared.items.Access.{Access}
 use Rattle.plat_base.specs.declared.items.Item.{Item}
@@ -476,15 +476,10 @@ is_some-unwrap_or : (x : Option ℕ) (d : ℕ) → is_some x ≡ true → x ≡ 
 is_some-unwrap_or None d h = absurd cc
 is_some-unwrap_or (Some n) d h = refl
 
--- the entry of an address in a space, where it has one
-abbrev pub entry_reached : Machine → (space addr : ℕ) → ℕ
-entry_reached m space addr = unwrap_or (entry_at m space (addr / m.words)) 0
-
 -- an access that a guest in state s wants reaches entry e
 pub record IsReach (m : Machine) (s : GuestState) (k : Kind) (sp a o e : ℕ) : Type 0 where
   pub space : sp ≡ s.space
   pub found : entry_at m sp (a / m.words) ≡ Some e
-  pub named : (d : ℕ) → unwrap_or (entry_at m sp (a / m.words)) d ≡ e
   pub below : e < length m.entries
   pub in_space : space_of m e ≡ sp
   pub page : (reach_of m k sp a o).page ≡ page_of m e
@@ -495,12 +490,11 @@ pub IsReach-wanted :
     → IsReach m s k sp a o (entry_reached m sp a)
 IsReach-wanted m q s k sp a o h =
     let w = wanted_next-access m s (slice_get (program_of m q).code s.at) k sp a o h in
-    let f : entry_at m sp (a / m.words) ≡ Some (entry_reached m sp a) = is_some-unwrap_or (entry_at m sp (a / m.words)) 0 w.1 in
+    let f : entry_at m sp (a / m.words) ≡ Some (entry_reached m sp a) = is_some-unwrap_or (entry_at m sp (a / m.words)) (length m.entries) w.1 in
     let e = entry_at-found m sp (a / m.words) (entry_reached m sp a) f
     in record {
       space = w.0;
       found = f;
-      named = λ d. ap (λ x. unwrap_or x d) f;
       below = e.below;
       in_space = e.in_space;
       page = refl;

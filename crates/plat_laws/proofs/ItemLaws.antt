@@ -1,5 +1,5 @@
 -- what each item of a history leaves alone, and what it changes: of an append, of applied messages, and of one more item
-use Rattle.std.specs.Prelude.{◌≡◌, ◌≢◌, ℕ, zero, suc, ◌+◌, ◌/◌, ◌==◌, nat_lt, nat_le, ◌&&◌, ◌||◌, not, if◌then◌else◌, Bool, true, false, List, [], ◌∷◌, ◌++◌, length, Option, Some, None, unwrap_or}
+use Rattle.std.specs.Prelude.{◌≡◌, ◌≢◌, ℕ, zero, suc, ◌+◌, ◌/◌, ◌==◌, nat_lt, nat_le, ◌&&◌, ◌||◌, not, if◌then◌else◌, Bool, true, false, List, [], ◌∷◌, ◌++◌, length, Option, Some, None}
 use Rattle.std.proofs.Common.{refl, ap, sym, ◌∙◌, arith}
 use Rattle.std.specs.List.{fold, list_any, list_all, filter_map}
 use Rattle.std.proofs.lemmas.Bool.{and_parts, or_parts, not-true, eq-eqb, ne_eqb, cond-true, cond-false}
@@ -12,10 +12,11 @@ use Rattle.plat_base.specs.Machine.{Machine}
 use Rattle.plat_base.specs.Pages.{entry_at, page_of, program_of, initial_value}
 use Rattle.plat_base.specs.Flat.{writes_word, written, flat_value, flat_writes}
 use Rattle.plat_base.specs.Directories.{change_of, empty_dir, dir_after, dir_of, seq_after, seq_of, last_after, last_of}
-use Rattle.plat_base.specs.Held.{kept_of, granted_to, held_after, held, active_after, active, has_right, is_later_change, later}
+use Rattle.plat_base.specs.Held.{kept_of, granted_to, held_after, held, active_after, active, has_right, is_later_change, later, held_through}
 use Rattle.plat_base.specs.Done.{value_of, values_of, Done, done_of, operations_of, are_done}
 use Rattle.plat_base.specs.GuestRun.{guest_run, want_of, GoesOn, HasHalted, HasTrapped}
-use Rattle.plat_base.specs.Coarse.{is_owed_for, by_other, ended_of}
+use Rattle.plat_base.specs.Ends.{ended_of}
+use Rattle.plat_base.specs.Messages.{is_owed_for, by_other}
 use Rattle.plat_base.specs.Rules.{wants_right, wants_operation, stands, is_end, is_in_order, bad_rule, bad_at, bad_or, bad_after}
 use Rattle.plat_base.specs.declared.items.Removed.{Removed}
 use Rattle.plat_base.specs.declared.items.Translation.{Translation}
@@ -353,10 +354,16 @@ operations_of-not_mine q xs ys h = filter_map-append_untouched (done_of q) (is_b
     none (item.Applied x) h = refl
     none (item.Switch s) h = rw h refl
 
+held_through-not_mine :
+    (m : Machine) (xs ys : List Item) (q : ℕ) (entry : Option ℕ) → list_any (is_by q) ys ≡ false
+    → held_through m (xs ++ ys) q entry ≡ held_through m xs q entry
+held_through-not_mine m xs ys q None h = refl
+held_through-not_mine m xs ys q (Some entry) h = held-not_mine m xs ys q entry h
+
 wants_right-not_mine : (m : Machine) (xs ys : List Item) (q : ℕ) (w : Want) → list_any (is_by q) ys ≡ false → wants_right m (xs ++ ys) q w ≡ wants_right m xs q w
 wants_right-not_mine m xs ys q want.Local h = refl
 wants_right-not_mine m xs ys q (want.Access k space addr operand) h =
-    ap (λ t. not (has_right k t)) (held-not_mine m xs ys q (unwrap_or (entry_at m space (addr / m.words)) 0) h)
+    ap (λ t. not (has_right k t)) (held_through-not_mine m xs ys q (entry_at m space (addr / m.words)) h)
 wants_right-not_mine m xs ys q (want.Switch space) h = refl
 wants_right-not_mine m xs ys q (want.Print value) h = refl
 wants_right-not_mine m xs ys q want.Halted h = refl

@@ -6,7 +6,7 @@ use Rattle.std.proofs.lemmas.Bool.Decides.{nat_tests}
 use Rattle.plat_base.specs.Machine.{Machine, limits, is_within, is_page_size, is_policy, is_entry}
 use Rattle.plat_base.specs.Pages.{page_of, space_of, no_entry}
 use Rattle.plat_base.specs.declared.policies.PolicyKind.TheVariants as policy
-use Rattle.plat_laws.specs.Sound.{IsWithinLimits}
+use Rattle.plat_laws.specs.Guests.{IsWithinLimits}
 
 -- ---- a test of each element, at one of them
 

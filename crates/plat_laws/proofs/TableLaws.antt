@@ -12,12 +12,15 @@ use Rattle.plat_base.specs.Copies.{copy_on, with_frame, same_frames}
 use Rattle.plat_base.specs.Directories.{sets_last}
 use Rattle.plat_base.specs.Decide.{is_frame, is_dir, is_empty, modules_rise, has_copies, nearer, nearest, no_frame, decide, may_decide, fits_cause, frozen_after, asks, decision, after_with, row_does, row_of, moves_page, thawed_state, is_some_frame, is_frame_on}
 use Rattle.plat_base.specs.Rules.{names_got, is_decided}
-use Rattle.plat_base.specs.Coarse.{change_by}
+use Rattle.plat_base.specs.Turns.{change_by}
 use Rattle.plat_base.proofs.CopiesLemmas.{copy_on-module, length-with_frame, same_frames-itself}
 use Rattle.plat_base.specs.declared.frames.Frame.{Frame}
 use Rattle.plat_base.specs.declared.frames.Dir.{Dir}
 use Rattle.plat_base.specs.declared.frames.State.{State}
 use Rattle.plat_base.specs.declared.frames.State.TheVariants as state
+use Rattle.plat_base.specs.Accesses.{cause_of}
+use Rattle.plat_base.specs.declared.items.Kind.{Kind}
+use Rattle.plat_base.specs.declared.items.Kind.TheVariants as kind
 use Rattle.plat_base.specs.declared.items.Cause.{Cause}
 use Rattle.plat_base.specs.declared.items.Cause.TheVariants as cause
 use Rattle.plat_base.specs.declared.items.Action.{Action}
@@ -30,6 +33,14 @@ use Rattle.plat_base.specs.declared.items.Item.{Item}
 use Rattle.plat_base.specs.declared.policies.Verdict.{Verdict}
 use Rattle.plat_base.specs.declared.policies.Verdict.TheVariants as verdict
 use Rattle.plat_base.specs.declared.policies.Decision.{Decision}
+
+-- ---- causes
+
+-- an access is no cause of a thaw
+pub cause_of-fault : (k : Kind) → cause_of k ≢ cause.Thaw
+cause_of-fault kind.Load e = cc
+cause_of-fault kind.Store e = cc
+cause_of-fault kind.Add e = cc
 
 -- ---- the copy on a module
 
@@ -107,6 +118,9 @@ pub record DecideFacts (m : Machine) (b : Dir) (got : Option Frame) (c : Cause) 
   pub granted : copy_on d.frame.module d.after.copies ≡ Some d.frame
   pub frame : is_frame m d.frame ≡ true
   pub modified_stays : b.state ≡ state.Modified → d.removed ≡ removed.Nothing → d.after.state ≡ state.Modified
+  -- a fill is of an empty page, and a page that is copied has a copy
+  pub fills : d.action ≡ action.Fill → is_empty b.state ≡ true
+  pub copied : d.action ≢ action.Fill → names_got d.action ≡ true → is_empty b.state ≡ false
   pub write_state : c ≡ cause.Write → d.after.state ≡ state.Modified
   pub write_removed : c ≡ cause.Write → d.removed ≢ removed.Writes
   pub read_removed : c ≡ cause.Read → d.removed ≢ removed.All
@@ -171,6 +185,8 @@ kept_facts m b c s frozen a f h st ng sl nt here =
       granted = here;
       frame = list_all_copy_on (is_frame m) f.module f b.copies here parts.0;
       modified_stays = λ x _. st.modified x;
+      fills = λ x. let taken : names_got a ≡ true = ap names_got x in absurd cc;
+      copied = λ _ x. absurd cc;
       write_state = st.write;
       write_removed = λ x y. absurd cc;
       read_removed = λ x y. absurd cc;
@@ -241,6 +257,8 @@ fill_facts m b c s frozen f was h k e n wr = record {
   granted = copy_on-itself f;
   frame = k;
   modified_stays = λ x _. absurd cc;
+  fills = λ x. ap is_empty was;
+  copied = λ x _. absurd (x refl);
   write_state = wr;
   write_removed = λ x y. absurd cc;
   read_removed = λ x y. absurd cc;
@@ -254,10 +272,10 @@ one_from : (mo : ℕ) (f g : Frame) (got : Option Frame) (fs : List Frame) → (
 one_from mo f g got fs c h = grind (arith, nat_tests)
 
 moved_facts : (m : Machine) (b : Dir) (got : Option Frame) (frozen : Bool) (a : Action) (f : Frame) → is_frame m f ≡ true
-    → (if names_got a then Some f else None) ≡ got → sets_last a ≡ true → a ≢ action.Thaw
+    → (if names_got a then Some f else None) ≡ got → sets_last a ≡ true → a ≢ action.Thaw → is_empty b.state ≡ false
     → (copy_on f.module b.copies ≡ Some f) ⊎ (got ≡ Some f)
     → DecideFacts m b got cause.Write (decision a removed.All (after_with state.Modified frozen (f ∷ [])) true f)
-moved_facts m b got frozen a f k back sl nt from = record {
+moved_facts m b got frozen a f k back sl nt e from = record {
   dir = one_is_dir m state.Modified frozen f k refl refl;
   filled = refl;
   got_back = back;
@@ -269,6 +287,8 @@ moved_facts m b got frozen a f k back sl nt from = record {
   granted = copy_on-itself f;
   frame = k;
   modified_stays = λ x y. absurd cc;
+  fills = λ x. let never : sets_last a ≡ false = ap sets_last x in absurd cc;
+  copied = λ _ _. e;
   write_state = λ x. refl;
   write_removed = λ x y. absurd cc;
   read_removed = λ x y. absurd cc;
@@ -276,14 +296,15 @@ moved_facts m b got frozen a f k back sl nt from = record {
   no_thaw = nt;
 }
 
-migrate_facts : (m : Machine) (b : Dir) (frozen : Bool) (f : Frame) → is_frame m f ≡ true
+migrate_facts : (m : Machine) (b : Dir) (frozen : Bool) (f : Frame) → is_frame m f ≡ true → is_empty b.state ≡ false
     → DecideFacts m b (Some f) cause.Write (decision action.Migrate removed.All (after_with state.Modified frozen (f ∷ [])) true f)
-migrate_facts m b frozen f k = moved_facts m b (Some f) frozen action.Migrate f k refl refl (λ x. absurd cc) (inr refl)
+migrate_facts m b frozen f k e = moved_facts m b (Some f) frozen action.Migrate f k refl refl (λ x. absurd cc) e (inr refl)
 
-collapse_facts : (m : Machine) (b : Dir) (frozen : Bool) (f : Frame) → is_dir m b ≡ true → copy_on f.module b.copies ≡ Some f
+collapse_facts : (m : Machine) (b : Dir) (frozen : Bool) (f : Frame) → is_dir m b ≡ true → is_empty b.state ≡ false
+    → copy_on f.module b.copies ≡ Some f
     → DecideFacts m b None cause.Write (decision action.Collapse removed.All (after_with state.Modified frozen (f ∷ [])) true f)
-collapse_facts m b frozen f h k =
-    moved_facts m b None frozen action.Collapse f (list_all_copy_on (is_frame m) f.module f b.copies k (dir_parts m b h).0) refl refl (λ x. absurd cc) (inl k)
+collapse_facts m b frozen f h e k =
+    moved_facts m b None frozen action.Collapse f (list_all_copy_on (is_frame m) f.module f b.copies k (dir_parts m b h).0) refl refl (λ x. absurd cc) e (inl k)
 
 -- ---- rows that add a copy
 
@@ -314,6 +335,8 @@ replicate_facts m b rem frozen f h k none e na wr back =
       granted = more_itself f b.copies;
       frame = k;
       modified_stays = λ x y. let z : rem ≡ removed.Writes = wr x in absurd cc;
+      fills = λ x. absurd cc;
+      copied = λ _ _. e;
       write_state = λ x. absurd cc;
       write_removed = λ x y. absurd cc;
       read_removed = λ x y. na y;
@@ -394,25 +417,25 @@ write_facts m b frozen node state.Present1 (Some g) moves None h e n c k =
 write_facts m b frozen node state.Present1 (Some g) moves (Some f) h e n c k = absurd k
 write_facts m b frozen node state.Present1 None true None h e n c k = absurd k
 write_facts m b frozen node state.Present1 None true (Some f) h e n c k =
-    migrate_facts m b frozen f k.0
+    migrate_facts m b frozen f k.0 n
 write_facts m b frozen node state.Present1 None false None h e n c k =
     remote_facts m b cause.Write state.Modified frozen node h (stays_written m b cause.Write h e) n
 write_facts m b frozen node state.Present1 None false (Some f) h e n c k = absurd k
 write_facts m b frozen node state.PresentPlus (Some g) moves None h e n c k =
-    collapse_facts m b frozen (unwrap_or (copy_on node b.copies) no_frame) h (own node g b.copies c)
+    collapse_facts m b frozen (unwrap_or (copy_on node b.copies) no_frame) h n (own node g b.copies c)
 write_facts m b frozen node state.PresentPlus (Some g) moves (Some f) h e n c k = absurd k
 write_facts m b frozen node state.PresentPlus None true None h e n c k = absurd k
 write_facts m b frozen node state.PresentPlus None true (Some f) h e n c k =
-    migrate_facts m b frozen f k.0
+    migrate_facts m b frozen f k.0 n
 write_facts m b frozen node state.PresentPlus None false None h e n c k =
-    collapse_facts m b frozen (nearest m node b.copies) h (near m b node h n)
+    collapse_facts m b frozen (nearest m node b.copies) h n (near m b node h n)
 write_facts m b frozen node state.PresentPlus None false (Some f) h e n c k = absurd k
 write_facts m b frozen node state.Modified (Some g) moves None h e n c k =
     local_facts m b cause.Write state.Modified frozen node g h (stays_modified m b cause.Write h e) c
 write_facts m b frozen node state.Modified (Some g) moves (Some f) h e n c k = absurd k
 write_facts m b frozen node state.Modified None true None h e n c k = absurd k
 write_facts m b frozen node state.Modified None true (Some f) h e n c k =
-    migrate_facts m b frozen f k.0
+    migrate_facts m b frozen f k.0 n
 write_facts m b frozen node state.Modified None false None h e n c k =
     remote_facts m b cause.Write state.Modified frozen node h (stays_modified m b cause.Write h e) n
 write_facts m b frozen node state.Modified None false (Some f) h e n c k = absurd k

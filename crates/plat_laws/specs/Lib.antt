@@ -1,3 +1,1 @@
-pub mod Sound
-pub mod Live
-pub mod Room
+pub mod Guests

@@ -1,8 +1,6 @@
-//! Laws of the coarse run over every policy, proved of the definitions alone.
+//! Laws of items, tables, guests, folds, limits and good histories, proved of the definitions alone. They know no engine.
 #![tactic(auto)]
 
 mod histories;
-mod runs;
 
 pub use histories::good_history;
-pub use runs::any_policy_coarse;

@@ -5,13 +5,13 @@ use Rattle.std.proofs.lemmas.Bool.{cases_Bool, or_parts, or_from, leb-false, lt-
 use Rattle.std.proofs.lemmas.Bool.Decides.{same_from_decides}
 use Rattle.std.proofs.lemmas.List.{length_push}
 use Rattle.std.proofs.lemmas.Slice.Eq.{bytes_eq-Decides}
-use Rattle.plat_base.specs.Lines.{Word, texts}
+use Rattle.plat_grammar.specs.Lines.{Word, texts}
 use Rattle.plat_base.specs.Labels.{is_label_name}
 use Rattle.plat_base.specs.Machine.{all_differ, same_name, is_instr}
 use Rattle.plat_base.specs.Canon.{Words, instr_words, label_words}
-use Rattle.plat_base.specs.Forms.{◌>>=◌, Row, Rest, Stop, word_at, first_word, row_length, one, nothing, ◌·◌, made, once}
-use Rattle.plat_base.specs.FirstFault.{name_after, label_line, body_line, ends_guest, body_from}
-use Rattle.plat_base.specs.Drafts.{Draft, name_of, instruction_line}
+use Rattle.plat_grammar.specs.Forms.{◌>>=◌, Row, Rest, Stop, word_at, first_word, row_length, one, nothing, ◌·◌, made, once}
+use Rattle.plat_grammar.specs.FirstFault.{name_after, label_line, body_line, ends_guest, body_from}
+use Rattle.plat_grammar.specs.Drafts.{Draft, name_of, instruction_line}
 use Rattle.plat_base.specs.declared.faults.Refused.{Refused}
 use Rattle.plat_base.specs.declared.faults.Why.{Why}
 use Rattle.plat_base.specs.declared.faults.Why.TheVariants as why

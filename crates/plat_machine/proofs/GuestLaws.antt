@@ -1,16 +1,16 @@
 -- guests: what is read is spelled so, and what is spelled so is read
-use Rattle.std.proofs.Common.{◌≡◌, ℕ, zero, suc, ◌+◌, ◌^◌, ◌<◌, ◌≤◌, Bool, true, false, ◌&&◌, leb, List, [], ◌∷◌, ◌++◌, length, map, Option, Result, Ok, Err, codes, refl, ap, sym, ◌∙◌, subst, arith, append_assoc, append-nil}
+use Rattle.std.proofs.Common.{◌≡◌, ℕ, zero, suc, ◌+◌, ◌^◌, ◌<◌, ◌≤◌, Bool, true, false, ◌&&◌, leb, ltb, List, [], ◌∷◌, ◌++◌, length, map, Option, Result, Ok, Err, codes, refl, ap, sym, ◌∙◌, subst, arith, append_assoc, append-nil}
 use Rattle.std.specs.Fmt.{decimal}
 use Rattle.std.specs.List.{AllByRecursion, list_all, flat_map, slice_index_or}
-use Rattle.std.proofs.lemmas.Bool.{and_parts, and_from, leb-true, le-leb}
+use Rattle.std.proofs.lemmas.Bool.{and_parts, and_from, leb-true, le-leb, lt-ltb, ltb-true}
 use Rattle.std.proofs.lemmas.List.{length-map}
 use Rattle.plat_base.specs.GuestRun.{no_label}
 use Rattle.plat_base.specs.Labels.{is_label_name}
-use Rattle.plat_base.specs.Machine.{Program, is_program, is_instr, all_differ, same_name, labels_rise}
+use Rattle.plat_base.specs.Machine.{Program, is_program, is_instr, is_spelled, all_differ, same_name, labels_rise}
 use Rattle.plat_base.specs.Canon.{Words, instr_words, label_name, with_labels, program_lines}
-use Rattle.plat_base.specs.Forms.{◌>>=◌, Rest, line_at}
-use Rattle.plat_base.specs.FirstFault.{number_line, body_at, body_from, guest_at, guests_from}
-use Rattle.plat_base.specs.Drafts.{Draft, code_from}
+use Rattle.plat_grammar.specs.Forms.{◌>>=◌, Rest, line_at}
+use Rattle.plat_grammar.specs.FirstFault.{number_line, body_at, body_from, guest_at, guests_from}
+use Rattle.plat_grammar.specs.Drafts.{Draft, code_from}
 use Rattle.plat_base.specs.declared.faults.Refused.{Refused}
 use Rattle.plat_base.specs.declared.guests.Label.{Label}
 use Rattle.plat_base.specs.declared.guests.Instr.{Instr}
@@ -22,12 +22,18 @@ use Rattle.plat_machine.proofs.MarkLaws.{Mark, codes_of, places_of, mark_words, 
 use Rattle.plat_machine.proofs.BodyLaws.{IsBody, no_body, ReadsBody, body-takes, EndsGuest, BodyAgain, body-again}
 use Rattle.plat_machine.proofs.LinkLaws.{code-takes, code-again}
 
--- a guest within its limits, whose labels' names are spelled as names
-pub record GuestFits (p : Program) : Type 0 where
-  pub limits : is_program p ≡ true
-  pub names : AllByRecursion (λ l. is_label_name l.name ≡ true) p.labels
-
 -- ---- the limits of a guest
+
+pub all-bools : {A : Type 0} (p : A → Bool) (xs : List A) → list_all p xs ≡ true → AllByRecursion (λ x. p x ≡ true) xs
+all-bools p [] h = tt
+all-bools p (x ∷ xs) h = let parts = and_parts (p x) (list_all p xs) h in (parts.0, all-bools p xs parts.1)
+
+pub all-from : {A : Type 0} (p : A → Bool) (xs : List A) → AllByRecursion (λ x. p x ≡ true) xs → list_all p xs ≡ true
+all-from p [] h = refl
+all-from p (x ∷ xs) h = and_from (p x) (list_all p xs) h.0 (all-from p xs h.1)
+
+abbrev pub GuestFits : Program → Type 0
+GuestFits p = is_program p ≡ true
 
 pub record ProgramParts (p : Program) : Type 0 where
   pub space : p.space ≤ 7
@@ -35,27 +41,38 @@ pub record ProgramParts (p : Program) : Type 0 where
   pub few : length p.labels ≤ 256
   pub instrs : list_all (is_instr (length p.labels)) p.code ≡ true
   pub rise : labels_rise 0 (length p.code) p.labels ≡ true
+  pub names : AllByRecursion (λ l. is_label_name l.name ≡ true) p.labels
   pub differ : all_differ same_name p.labels ≡ true
 
 abbrev first_four : Program → Bool
-first_four p = leb p.space 7 && leb (length p.code) 4096 && leb (length p.labels) 256 && list_all (is_instr (length p.labels)) p.code
+first_four p = ltb p.space 8 && leb (length p.code) 4096 && leb (length p.labels) 256 && list_all (is_instr (length p.labels)) p.code
 
 pub program-parts : (p : Program) → is_program p ≡ true → ProgramParts p
 program-parts p e =
-    let a = and_parts (first_four p && labels_rise 0 (length p.code) p.labels) (all_differ same_name p.labels) e in
-    let b = and_parts (first_four p) (labels_rise 0 (length p.code) p.labels) a.0 in
-    let c = and_parts (leb p.space 7 && leb (length p.code) 4096 && leb (length p.labels) 256) (list_all (is_instr (length p.labels)) p.code) b.0 in
-    let d = and_parts (leb p.space 7 && leb (length p.code) 4096) (leb (length p.labels) 256) c.0 in
-    let f = and_parts (leb p.space 7) (leb (length p.code) 4096) d.0 in
-    record { space = leb-true _ _ f.0; code = leb-true _ _ f.1; few = leb-true _ _ d.1; instrs = c.1; rise = b.1; differ = a.1 }
+    let a = and_parts (first_four p && labels_rise 0 (length p.code) p.labels && list_all is_spelled p.labels) (all_differ same_name p.labels) e in
+    let s = and_parts (first_four p && labels_rise 0 (length p.code) p.labels) (list_all is_spelled p.labels) a.0 in
+    let b = and_parts (first_four p) (labels_rise 0 (length p.code) p.labels) s.0 in
+    let c = and_parts (ltb p.space 8 && leb (length p.code) 4096 && leb (length p.labels) 256) (list_all (is_instr (length p.labels)) p.code) b.0 in
+    let d = and_parts (ltb p.space 8 && leb (length p.code) 4096) (leb (length p.labels) 256) c.0 in
+    let f = and_parts (ltb p.space 8) (leb (length p.code) 4096) d.0 in
+    record {
+      space = omega (arith, ltb-true _ _ f.0);
+      code = leb-true _ _ f.1;
+      few = leb-true _ _ d.1;
+      instrs = c.1;
+      rise = b.1;
+      names = all-bools is_spelled p.labels s.1;
+      differ = a.1;
+    }
 
 program-from : (p : Program) → ProgramParts p → is_program p ≡ true
 program-from p h =
-    and_from (first_four p && labels_rise 0 (length p.code) p.labels) (all_differ same_name p.labels)
+    and_from (first_four p && labels_rise 0 (length p.code) p.labels && list_all is_spelled p.labels) (all_differ same_name p.labels)
+    (and_from (first_four p && labels_rise 0 (length p.code) p.labels) (list_all is_spelled p.labels)
     (and_from (first_four p) (labels_rise 0 (length p.code) p.labels)
-    (and_from (leb p.space 7 && leb (length p.code) 4096 && leb (length p.labels) 256) (list_all (is_instr (length p.labels)) p.code)
-    (and_from (leb p.space 7 && leb (length p.code) 4096) (leb (length p.labels) 256)
-    (and_from (leb p.space 7) (leb (length p.code) 4096) (le-leb _ _ h.space) (le-leb _ _ h.code)) (le-leb _ _ h.few)) h.instrs) h.rise) h.differ
+    (and_from (ltb p.space 8 && leb (length p.code) 4096 && leb (length p.labels) 256) (list_all (is_instr (length p.labels)) p.code)
+    (and_from (ltb p.space 8 && leb (length p.code) 4096) (leb (length p.labels) 256)
+    (and_from (ltb p.space 8) (leb (length p.code) 4096) (lt-ltb _ _ (omega (arith, h.space))) (le-leb _ _ h.code)) (le-leb _ _ h.few)) h.instrs) h.rise) (all-from is_spelled p.labels h.names)) h.differ
 
 -- ---- one guest
 
@@ -92,11 +109,12 @@ guest-takes rest p after e =
       few = body.few;
       instrs = ap (list_all (is_instr (length b.0.1))) c.1 ∙ c.3;
       rise = rise;
+      names = body.names;
       differ = body.differ;
     } in
     rw (← value, ← left) (
       rw lines (took_then rest s.1 b.1 ((codes "guest" ∷ decimal s.0 ∷ []) ∷ []) (map (λ m. mark_words draft_words m) u.marks) t.0 u.took),
-      record { limits = program-from _ parts; names = body.names },
+      program-from _ parts,
     ))))
 
 pub name_at : (labels : List Label) → AllByRecursion (λ l. is_label_name l.name ≡ true) labels → (k : ℕ) → k < length labels → is_label_name (label_name labels k) ≡ true
@@ -104,15 +122,11 @@ name_at [] h k inside = absurd (omega arith)
 name_at (l ∷ ls) h zero inside = h.0
 name_at (l ∷ ls) h (suc k) inside = name_at ls h.1 k (omega arith)
 
-pub all-bools : {A : Type 0} (p : A → Bool) (xs : List A) → list_all p xs ≡ true → AllByRecursion (λ x. p x ≡ true) xs
-all-bools p [] h = tt
-all-bools p (x ∷ xs) h = let parts = and_parts (p x) (list_all p xs) h in (parts.0, all-bools p xs parts.1)
-
 guest-again : (rest : Rest) (p : Program) (more : List Words) → GuestFits p → EndsGuest more → rest_lists rest ≡ program_lines p ++ more
     → (after : Rest) × (guest_at rest ≡ Ok (p, after)) × (rest_lists after ≡ more)
 unfolding guest_at
 guest-again rest p more fits ends e =
-    let parts = program-parts p fits.limits in
+    let parts = program-parts p fits in
     let names = label_name p.labels in
     let ms = marks_of 0 p.code p.labels in
     let code_is : codes_of ms ≡ p.code = codes-marks 0 p.code p.labels in
@@ -122,8 +136,8 @@ guest-again rest p more fits ends e =
     let lines : map (λ m. mark_words (instr_words names) m) ms ≡ with_labels 0 (map (instr_words names) p.code) p.labels =
     sym (with_labels-marks (instr_words names) 0 ms order) ∙ ap (λ k. with_labels 0 (map (instr_words names) k) (places_of ms)) code_is ∙ ap (λ k. with_labels 0 (map (instr_words names) p.code) k) labels_are in
     let t = again_exactly space-section rest p.space (with_labels 0 (map (instr_words names) p.code) p.labels ++ more) (omega arith, parts.space) tt e in
-    let u = body-again names (length p.labels) (name_at p.labels fits.names) more ends t.0.stop ms t.0.given [] [] t.0.rows
-    (rw code_is (all-bools (is_instr (length p.labels)) p.code parts.instrs)) (rw labels_are fits.names) (rw labels_are parts.differ)
+    let u = body-again names (length p.labels) (name_at p.labels parts.names) more ends t.0.stop ms t.0.given [] [] t.0.rows
+    (rw code_is (all-bools (is_instr (length p.labels)) p.code parts.instrs)) (rw labels_are parts.names) (rw labels_are parts.differ)
     (omega (arith, ap length code_is, parts.code)) (omega (arith, ap length labels_are, parts.few)) order
     (t.2 ∙ ap (λ k. k ++ more) (sym lines)) in
     let body : body_at t.0 ≡ Ok ((u.ds, p.labels), u.after) = u.reads ∙ ap (λ k. Ok ((u.ds, k), u.after)) labels_are in

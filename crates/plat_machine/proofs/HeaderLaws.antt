@@ -4,11 +4,11 @@ use Rattle.std.specs.Fmt.{decimal}
 use Rattle.std.specs.List.{AllByRecursion, list_all, list_any}
 use Rattle.std.proofs.lemmas.Bool.{and_parts, and_from, leb-true, le-leb, lt-ltb, ltb-true}
 use Rattle.std.proofs.lemmas.Bool.Decides.{nat_tests}
-use Rattle.plat_base.specs.Lines.{number_of}
+use Rattle.plat_grammar.specs.Lines.{number_of}
 use Rattle.plat_base.specs.Machine.{Turns, robin, random, listed, is_within, is_page_size, is_policy, is_schedule, is_number}
 use Rattle.plat_base.specs.Canon.{policy_words, schedule_words, number_line as number_words}
-use Rattle.plat_base.specs.Forms.{◌>>=◌, Row, Rest, refused, one, nothing, ◌·◌, number, any_number, made, chosen, choice, number_in, line_at, listed as listed_form}
-use Rattle.plat_base.specs.FirstFault.{number_line, page_size, size_of, size_line, version_line, platinum_line, policies, policy_line, random_line, schedules, schedule_line, Header, header_at}
+use Rattle.plat_grammar.specs.Forms.{◌>>=◌, Row, Rest, refused, one, nothing, ◌·◌, number, any_number, made, chosen, choice, number_in, line_at, listed as listed_form}
+use Rattle.plat_grammar.specs.FirstFault.{number_line, page_size, size_of, size_line, version_line, platinum_line, policies, policy_line, random_line, schedules, schedule_line, Header, header_at}
 use Rattle.plat_base.specs.declared.faults.Refused.{Refused}
 use Rattle.plat_base.specs.declared.faults.Why.{Why}
 use Rattle.plat_base.specs.declared.faults.Why.TheVariants as why

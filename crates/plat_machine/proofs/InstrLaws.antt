@@ -2,13 +2,13 @@
 use Rattle.std.proofs.Common.{◌≡◌, ℕ, zero, suc, ◌+◌, ◌^◌, ◌<◌, ◌≤◌, Bool, true, false, not, ◌&&◌, cond, eqb, leb, ltb, List, [], ◌∷◌, ◌++◌, length, map, Option, Some, None, option_map, Result, Ok, Err, codes, IsTrue, refl, ap, sym, ◌∙◌, subst, arith, ⊎_elim}
 use Rattle.std.specs.Fmt.{decimal}
 use Rattle.std.specs.List.{AllByRecursion}
-use Rattle.std.proofs.lemmas.Bool.{cases_Bool, and_parts, and_from, leb-true, leb-false, le-leb, lt-leb, lt-ltb, ltb-true, eqb-true}
-use Rattle.plat_base.specs.Lines.{number_of}
+use Rattle.std.proofs.lemmas.Bool.{cases_Bool, and_parts, and_from, leb-false, lt-leb, lt-ltb, ltb-true, eqb-true}
+use Rattle.plat_grammar.specs.Lines.{number_of}
 use Rattle.plat_base.specs.Labels.{is_label_name}
 use Rattle.plat_base.specs.Machine.{is_instr, is_register, is_number, is_index}
 use Rattle.plat_base.specs.Canon.{instr_words, register_word, index_words}
-use Rattle.plat_base.specs.Forms.{◌>>=◌, Row, word_at, refused, read_as, one, nothing, ◌·◌, number, any_number, made, maybe, chosen}
-use Rattle.plat_base.specs.Drafts.{Target, Draft, plain, register_below_16, numbered_register, register_of, register, name_of, target, address, two_registers, three_registers, set_line, move_line, add_line, sub_line, mul_line, and_line, shr_line, load_line, store_line, fadd_line, switch_line, print_line, jump_line, zero_line, less_line, halt_line, instructions, instruction_line, with_label}
+use Rattle.plat_grammar.specs.Forms.{◌>>=◌, Row, word_at, refused, read_as, one, nothing, ◌·◌, number, any_number, made, maybe, chosen}
+use Rattle.plat_grammar.specs.Drafts.{Target, Draft, plain, register_below_16, numbered_register, register_of, register, name_of, target, address, two_registers, three_registers, set_line, move_line, add_line, sub_line, mul_line, and_line, shr_line, load_line, store_line, fadd_line, switch_line, print_line, jump_line, zero_line, less_line, halt_line, instructions, instruction_line, with_label}
 use Rattle.plat_base.specs.declared.faults.Refused.{Refused}
 use Rattle.plat_base.specs.declared.faults.Why.{Why}
 use Rattle.plat_base.specs.declared.faults.Why.TheVariants as why
@@ -204,7 +204,7 @@ fadd-kind = made-kind (before-law (one-law register-law) (before-law (one-law re
 switch-kind : Kind (codes "switch", switch_line)
 unfolding switch_line
 switch-kind = made-kind (before-law (one-law (number-law 0 7 (omega arith))) nothing-law) (λ x. plain (instr.Switch x.0)) named (λ b. (instr.Switch b.0, None)) (λ a. refl)
-    named_words NamedFits (codes "switch") (λ b h. (refl, (le-leb b.0 7 h.0.1, tt)))
+    named_words NamedFits (codes "switch") (λ b h. (refl, (lt-ltb b.0 8 (omega (arith, h.0.1)), tt)))
 
 print-kind : Kind (codes "print", print_line)
 unfolding print_line
@@ -342,7 +342,7 @@ module _ (count : ℕ) (few : count < 4096) (names : ℕ → List ℕ) (n : ℕ)
   instruction-again (instr.Switch s) h e =
       dispatch count row (codes "switch") (decimal s ∷ []) (instr.Switch s, None) few e
       (λ fault after t. made-again (before-law (one-law (number-law 0 7 (omega arith))) nothing-law) (λ x. plain (instr.Switch x.0)) named (λ b. (instr.Switch b.0, None)) (λ a. refl)
-      after (s, tt) ((omega arith, leb-true s 7 h), tt) t)
+      after (s, tt) ((omega arith, omega (arith, ltb-true s 8 h)), tt) t)
   instruction-again (instr.Print s) h e =
       dispatch count row (codes "print") (register_word s ∷ []) (instr.Print s, None) few e
       (λ fault after t. made-again (before-law (one-law register-law) nothing-law) (λ x. plain (instr.Print x.0)) named (λ b. (instr.Print b.0, None)) (λ a. refl) after (s, tt) (ltb-true s 16 h, tt) t)

@@ -14,4 +14,3 @@ pub mod PrintLines
 pub mod PrintLabels
 pub mod PrintParts
 pub mod PlainCanon
-pub mod PrintNames

@@ -7,8 +7,8 @@ use Rattle.std.proofs.lemmas.Slice.Eq.{bytes_eq-Decides}
 use Rattle.plat_base.specs.GuestRun.{no_label}
 use Rattle.plat_base.specs.Machine.{all_differ, same_name, is_instr, is_register}
 use Rattle.plat_base.specs.Canon.{Words, instr_words, label_name}
-use Rattle.plat_base.specs.Forms.{◌>>=◌, refused}
-use Rattle.plat_base.specs.Drafts.{Target, Draft, with_label, label_number, linked, linked_by, linked_to, code_from}
+use Rattle.plat_grammar.specs.Forms.{◌>>=◌, refused}
+use Rattle.plat_grammar.specs.Drafts.{Target, Draft, with_label, label_number, linked, linked_by, linked_to, code_from}
 use Rattle.plat_base.specs.declared.faults.Refused.{Refused}
 use Rattle.plat_base.specs.declared.faults.Why.TheVariants as why
 use Rattle.plat_base.specs.declared.guests.Label.{Label}

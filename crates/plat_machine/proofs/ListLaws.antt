@@ -2,13 +2,13 @@
 use Rattle.std.proofs.Common.{◌≡◌, ℕ, ◌+◌, ◌^◌, ◌<◌, ◌≤◌, Bool, true, false, not, ◌&&◌, cond, eqb, leb, ltb, List, [], ◌∷◌, ◌++◌, length, map, Result, Ok, Err, codes, IsTrue, refl, ap, sym, ◌∙◌, subst, arith}
 use Rattle.std.specs.Fmt.{decimal}
 use Rattle.std.specs.List.{AllByRecursion, list_all}
-use Rattle.std.proofs.lemmas.Bool.{and_parts, and_from, leb-true, le-leb, lt-ltb, ltb-true, not-true, not_from_false}
+use Rattle.std.proofs.lemmas.Bool.{and_parts, and_from, lt-ltb, ltb-true, not-true, not_from_false}
 use Rattle.std.proofs.lemmas.Bool.Decides.{nat_tests}
-use Rattle.plat_base.specs.Lines.{number_of}
+use Rattle.plat_grammar.specs.Lines.{number_of}
 use Rattle.plat_base.specs.Machine.{is_within, is_distance, is_entry, is_init, is_number, same_nodes, same_place, same_word, all_differ}
 use Rattle.plat_base.specs.Canon.{distance_words, entry_words, init_words}
-use Rattle.plat_base.specs.Forms.{◌>>=◌, Row, one, nothing, ◌·◌, number, number_below, below, any_number, made, all_with}
-use Rattle.plat_base.specs.FirstFault.{other_than, other_node, distance_line, entry_line, init_line, distances_at, entries_at, inits_at}
+use Rattle.plat_grammar.specs.Forms.{◌>>=◌, Row, one, nothing, ◌·◌, number, number_below, below, any_number, made, all_with}
+use Rattle.plat_grammar.specs.FirstFault.{other_than, other_node, distance_line, entry_line, init_line, distances_at, entries_at, inits_at}
 use Rattle.plat_base.specs.declared.faults.Refused.{Refused}
 use Rattle.plat_base.specs.declared.faults.Why.{Why}
 use Rattle.plat_base.specs.declared.faults.Why.TheVariants as why
@@ -114,13 +114,13 @@ entry-law pages few =
     (λ a d h. ap (λ x. record { space = x.0; vpage = x.1.0; page = x.1.1.0 }) h))
     (λ e h. (
       refl,
-      and_from (leb e.space 7 && leb e.vpage 63) (ltb e.page pages)
-          (and_from (leb e.space 7) (leb e.vpage 63) (le-leb e.space 7 h.0.1) (le-leb e.vpage 63 h.1.0.1)) (lt-ltb e.page pages h.1.1.0),
+      and_from (ltb e.space 8 && ltb e.vpage 64) (ltb e.page pages)
+          (and_from (ltb e.space 8) (ltb e.vpage 64) (lt-ltb e.space 8 (omega (arith, h.0.1))) (lt-ltb e.vpage 64 (omega (arith, h.1.0.1)))) (lt-ltb e.page pages h.1.1.0),
     ))
     (λ e h.
-    let last = and_parts (leb e.space 7 && leb e.vpage 63) (ltb e.page pages) h in
-    let first = and_parts (leb e.space 7) (leb e.vpage 63) last.0 in
-    (refl, ((omega arith, leb-true e.space 7 first.0), ((omega arith, leb-true e.vpage 63 first.1), (ltb-true e.page pages last.1, tt)))))
+    let last = and_parts (ltb e.space 8 && ltb e.vpage 64) (ltb e.page pages) h in
+    let first = and_parts (ltb e.space 8) (ltb e.vpage 64) last.0 in
+    (refl, ((omega arith, omega (arith, ltb-true e.space 8 first.0)), ((omega arith, omega (arith, ltb-true e.vpage 64 first.1)), (ltb-true e.page pages last.1, tt)))))
 
 same_place-symmetric : (a b : Entry) → same_place a b ≡ same_place b a
 same_place-symmetric a b = swapped a.space b.space a.vpage b.vpage

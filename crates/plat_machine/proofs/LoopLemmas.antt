@@ -2,10 +2,10 @@
 use Rattle.std.proofs.Common.{◌≡◌, ℕ, suc, zero, ◌+◌, ◌-◌, ◌<◌, ◌≤◌, Bool, true, false, cond, List, [], ◌∷◌, ◌++◌, length, take, drop, get_or, map, Result, Ok, Err, refl, ap, sym, ◌∙◌, arith, ⊎_elim}
 use Rattle.std.proofs.lemmas.Bool.{cases_Bool}
 use Rattle.std.proofs.lemmas.List.{at_drop_more, at_drop_all}
-use Rattle.plat_base.specs.Lines.{Word}
-use Rattle.plat_base.specs.Forms.{◌>>=◌, Row, Rest, Stop, row_at, first_word, word_ahead, row_length}
-use Rattle.plat_base.specs.FirstFault.{body_from, body_line, ends_guest, guest_at, guests_from}
-use Rattle.plat_base.specs.Drafts.{Draft, Target, linked, code_from}
+use Rattle.plat_grammar.specs.Lines.{Word}
+use Rattle.plat_grammar.specs.Forms.{◌>>=◌, Row, Rest, Stop, row_at, first_word, word_ahead, row_length}
+use Rattle.plat_grammar.specs.FirstFault.{body_from, body_line, ends_guest, guest_at, guests_from}
+use Rattle.plat_grammar.specs.Drafts.{Draft, Target, linked, code_from}
 use Rattle.plat_base.specs.Machine.{Program, program_seen, programs_seen}
 use Rattle.plat_base.specs.declared.faults.Refused.{Refused}
 use Rattle.plat_base.specs.declared.guests.Label.{Label}

@@ -4,13 +4,12 @@ use Rattle.std.specs.Fmt.{decimal}
 use Rattle.std.specs.List.{AllByRecursion, list_all, flat_map}
 use Rattle.std.proofs.lemmas.Bool.{and_parts, and_from, eqb-true, eq-eqb, not_from_false}
 use Rattle.std.proofs.lemmas.Bool.Decides.{nat_tests}
-use Rattle.plat_base.specs.Labels.{is_label_name}
 use Rattle.plat_base.specs.Machine.{Machine, Program, Turns, robin, random, listed, limits, is_machine, is_within, is_page_size, is_policy, is_schedule, is_distance, is_entry, is_init, is_program, all_differ, same_nodes, same_place, same_word}
 use Rattle.plat_base.specs.Text.{text_bytes}
 use Rattle.plat_base.specs.Canon.{Words, canon, canon_text, is_short, most_bytes, policy_words, schedule_words, distance_words, entry_words, init_words, instr_words, label_words, label_name, with_labels, program_lines}
-use Rattle.plat_base.specs.Forms.{◌>>=◌, Row, Rest, row_at, word_at, one, exactly, read_as, nothing, refused}
-use Rattle.plat_base.specs.FirstFault.{Header, header_at, distances_at, entries_at, inits_at, guests_from, end_line, machine_with, front_at, machine_at}
-use Rattle.plat_base.specs.Grammar.{IsMachine, has_words}
+use Rattle.plat_grammar.specs.Forms.{◌>>=◌, Row, Rest, row_at, word_at, one, exactly, read_as, nothing, refused}
+use Rattle.plat_grammar.specs.FirstFault.{Header, header_at, distances_at, entries_at, inits_at, guests_from, end_line, machine_with, front_at, machine_at}
+use Rattle.plat_grammar.specs.Grammar.{IsMachine, has_words}
 use Rattle.plat_base.specs.declared.faults.Refused.{Refused}
 use Rattle.plat_base.specs.declared.faults.Why.TheVariants as why
 use Rattle.plat_base.specs.declared.policies.PolicyKind.{PolicyKind}
@@ -30,7 +29,7 @@ use Rattle.plat_text.proofs.CanonLaws.{AreLines, text_bytes-size}
 use Rattle.plat_machine.proofs.HeaderLaws.{header_lines, HeaderFits, header-law, policy_kind_words, turns_words}
 use Rattle.plat_machine.proofs.ListLaws.{distances-law, entries-law, inits-law}
 use Rattle.plat_machine.proofs.BodyLaws.{EndsGuest, instr-key}
-use Rattle.plat_machine.proofs.GuestLaws.{GuestFits, all-bools, guests-law}
+use Rattle.plat_machine.proofs.GuestLaws.{GuestFits, all-bools, all-from, guests-law}
 
 -- ---- the lines before `end`
 
@@ -91,53 +90,38 @@ pub record MachineParts (m : Machine) : Type 0 where
   pub count : length m.guests ≡ m.nodes
   pub guests : AllByRecursion GuestFits m.guests
 
-all-from : {A : Type 0} (p : A → Bool) (xs : List A) → AllByRecursion (λ x. p x ≡ true) xs → list_all p xs ≡ true
-all-from p [] h = refl
-all-from p (x ∷ xs) h = and_from (p x) (list_all p xs) h.0 (all-from p xs h.1)
-
-guests-limits : (gs : List Program) → AllByRecursion GuestFits gs → list_all is_program gs ≡ true
-guests-limits [] h = refl
-guests-limits (g ∷ gs) h = and_from (is_program g) (list_all is_program gs) h.0.limits (guests-limits gs h.1)
-
-guests-names : (gs : List Program) → AllByRecursion GuestFits gs → AllByRecursion (λ p. AllByRecursion (λ l. IsTrue (is_label_name l.name)) p.labels) gs
-guests-names [] h = tt
-guests-names (g ∷ gs) h = (h.0.names, guests-names gs h.1)
-
-guests-from : (gs : List Program) → list_all is_program gs ≡ true → AllByRecursion (λ p. AllByRecursion (λ l. IsTrue (is_label_name l.name)) p.labels) gs → AllByRecursion GuestFits gs
-guests-from [] h n = tt
-guests-from (g ∷ gs) h n = let parts = and_parts (is_program g) (list_all is_program gs) h in (record { limits = parts.0; names = n.0 }, guests-from gs parts.1 n.1)
-
 pub machine-from : (m : Machine) → MachineParts m → IsMachine m
-machine-from m h = record {
-  limits = all-from (λ b. b) (limits m) (
-    is_within-from 1 8 m.nodes h.nodes.0 h.nodes.1,
-    (
-      is_within-from 1 64 m.frames h.frames.0 h.frames.1,
+machine-from m h =
+    all-from (λ b. b) (limits m) (
+      is_within-from 1 8 m.nodes h.nodes.0 h.nodes.1,
       (
-        h.words,
+        is_within-from 1 64 m.frames h.frames.0 h.frames.1,
         (
-          is_within-from 1 64 m.pages h.pages.0 h.pages.1,
+          h.words,
           (
-            h.policy,
+            is_within-from 1 64 m.pages h.pages.0 h.pages.1,
             (
-              is_within-from 1 65536 m.budget h.budget.0 h.budget.1,
+              h.policy,
               (
-                h.schedule,
+                is_within-from 1 65536 m.budget h.budget.0 h.budget.1,
                 (
-                  all-from (is_distance m.nodes) m.distances h.distances,
+                  h.schedule,
                   (
-                    h.distances_differ,
+                    all-from (is_distance m.nodes) m.distances h.distances,
                     (
-                      all-from (is_entry m.pages) m.entries h.entries,
+                      h.distances_differ,
                       (
-                        h.entries_differ,
+                        all-from (is_entry m.pages) m.entries h.entries,
                         (
-                          all-from (is_init m.pages m.words) m.inits h.inits,
+                          h.entries_differ,
                           (
-                            h.inits_differ,
+                            all-from (is_init m.pages m.words) m.inits h.inits,
                             (
-                              eq-eqb (length m.guests) m.nodes h.count,
-                              (guests-limits m.guests h.guests, tt),
+                              h.inits_differ,
+                              (
+                                eq-eqb (length m.guests) m.nodes h.count,
+                                (all-from is_program m.guests h.guests, tt),
+                              ),
                             ),
                           ),
                         ),
@@ -150,17 +134,14 @@ machine-from m h = record {
           ),
         ),
       ),
-    ),
-  );
-  names = guests-names m.guests h.guests;
-}
+    )
 
 true_parts : (b : Bool) (bs : List Bool) → list_all (λ b. b) (b ∷ bs) ≡ true → (b ≡ true) × (list_all (λ b. b) bs ≡ true)
 true_parts b bs h = and_parts b (list_all (λ b. b) bs) h
 
 pub machine-parts : (m : Machine) → IsMachine m → MachineParts m
 machine-parts m h =
-    let t0 = true_parts (is_within 1 8 m.nodes) (drop 1 (limits m)) h.limits in
+    let t0 = true_parts (is_within 1 8 m.nodes) (drop 1 (limits m)) h in
     let t1 = true_parts (is_within 1 64 m.frames) (drop 2 (limits m)) t0.1 in
     let t2 = true_parts (is_page_size m.words) (drop 3 (limits m)) t1.1 in
     let t3 = true_parts (is_within 1 64 m.pages) (drop 4 (limits m)) t2.1 in
@@ -190,7 +171,7 @@ machine-parts m h =
       inits = all-bools (is_init m.pages m.words) m.inits t11.0;
       inits_differ = t12.0;
       count = eqb-true (length m.guests) m.nodes t13.0;
-      guests = guests-from m.guests t14.0 h.names;
+      guests = all-bools is_program m.guests t14.0;
     }
 
 -- ---- the lines before `end` are read
@@ -470,7 +451,7 @@ module _ (rest after : Rest) (m : Machine) (start given : ℕ) (started : start 
   machine-right next left e = then_ok (front_at rest) _ (m, after) _ read (rw (← short_is, e) refl)
 
   pub read-limits : IsTrue (is_machine m)
-  read-limits = (front-takes rest m after read).1.limits
+  read-limits = (front-takes rest m after read).1
 
   pub read-short : (next : ℕ) (left : Rest) → end_line (leb (given - start + 4) 1048576) after ≡ Ok (next, left) → IsTrue (is_short m)
   read-short next left e = sym short_is ∙ (end-takes (leb (given - start + 4) 1048576) after next left e).is_short

@@ -6,12 +6,14 @@ use Rattle.std.proofs.lemmas.Bool.{and_parts, ltb-true, leb-true}
 use Rattle.std.proofs.lemmas.Bool.Decides.{nat_tests}
 use Rattle.plat_base.specs.Labels.{is_label_name}
 use Rattle.plat_base.specs.Machine.{Machine, Program, Turns, robin, random, listed, is_page_size, is_policy, is_schedule, is_within, is_number, is_distance, is_entry, is_init, is_register, is_index, is_instr}
+use Rattle.plat_base.specs.Seen.{machine}
 use Rattle.plat_base.specs.Text.{text_bytes}
 use Rattle.plat_base.specs.Canon.{Words, canon, canon_text, is_short, most_bytes, policy_words, schedule_words, distance_words, entry_words, init_words, register_word, index_words, instr_words, label_name, with_labels, program_lines}
-use Rattle.plat_base.specs.FirstFault.{text_at}
-use Rattle.plat_base.specs.Grammar.{IsMachine, IsTextOf}
+use Rattle.plat_grammar.specs.FirstFault.{text_at}
+use Rattle.plat_grammar.specs.Grammar.{IsMachine, IsTextOf}
 use Rattle.plat_base.specs.declared.policies.PolicyKind.{PolicyKind}
 use Rattle.plat_base.specs.declared.policies.PolicyKind.TheVariants as policy
+use Rattle.plat_base.specs.declared.configs.Config.{Config}
 use Rattle.plat_base.specs.declared.configs.Distance.{Distance}
 use Rattle.plat_base.specs.declared.configs.Entry.{Entry}
 use Rattle.plat_base.specs.declared.configs.Init.{Init}
@@ -125,7 +127,7 @@ module _ (labels : ℕ) (name : ℕ → List ℕ) (named : (l : ℕ) → ltb l l
   instr-plain (instr.Load d k i) h = access-plain (codes "load") d k i refl h
   instr-plain (instr.Store s k i) h = access-plain (codes "store") s k i refl h
   instr-plain (instr.Fadd d s k i) h = fadd-plain d s k i h
-  instr-plain (instr.Switch s) h = one_number (codes "switch") s 7 refl (leb-true s 7 h) (omega arith)
+  instr-plain (instr.Switch s) h = one_number (codes "switch") s 7 refl (omega (arith, ltb-true s 8 h)) (omega arith)
   instr-plain (instr.Print s) h = (refl, (refl, (register-plain s h, tt)))
   instr-plain (instr.Jump l) h = (refl, (refl, (named l h, tt)))
   instr-plain (instr.Zero a l) h = let p = and_parts (is_register a) (ltb l labels) h in (refl, (refl, (register-plain a p.0, (named l p.1, tt))))
@@ -143,10 +145,10 @@ labels-plain at code (l ∷ ls) h names =
 
 program-plain : (p : Program) → GuestFits p → ArePlain (program_lines p)
 program-plain p fits =
-    let parts = program-parts p fits.limits in
-    let named : (l : ℕ) → ltb l (length p.labels) ≡ true → IsPlain (label_name p.labels l) = λ l inside. label_name-plain (label_name p.labels l) (name_at p.labels fits.names l (ltb-true l (length p.labels) inside)) in
+    let parts = program-parts p fits in
+    let named : (l : ℕ) → ltb l (length p.labels) ≡ true → IsPlain (label_name p.labels l) = λ l inside. label_name-plain (label_name p.labels l) (name_at p.labels parts.names l (ltb-true l (length p.labels) inside)) in
     let code = all-mapped (instr_words (label_name p.labels)) (instr-plain (length p.labels) (label_name p.labels) named) p.code (all-bools (is_instr (length p.labels)) p.code parts.instrs) in
-    (one_number (codes "guest") p.space 7 refl parts.space (omega arith), labels-plain 0 (map (instr_words (label_name p.labels)) p.code) p.labels code fits.names)
+    (one_number (codes "guest") p.space 7 refl parts.space (omega arith), labels-plain 0 (map (instr_words (label_name p.labels)) p.code) p.labels code parts.names)
 
 guests-plain : (gs : List Program) → AllByRecursion GuestFits gs → ArePlain (flat_map program_lines gs)
 guests-plain [] h = tt
@@ -195,3 +197,11 @@ canon_text-is_text m fits short =
 -- so it is read as this machine
 pub canon_text-again : (m : Machine) → IsMachine m → IsTrue (is_short m) → text_at (canon_text m) ≡ Ok m
 canon_text-again m fits short = text-again (canon_text m) m fits (canon_text-is_text m fits short)
+
+-- so of a Config, which keeps the limits
+
+pub config-text : (cfg : Config) → IsTextOf (canon_text (machine cfg)) (machine cfg)
+config-text cfg = canon_text-is_text (machine cfg) cfg.limits cfg.short
+
+pub config-again : (cfg : Config) → text_at (canon_text (machine cfg)) ≡ Ok (machine cfg)
+config-again cfg = canon_text-again (machine cfg) cfg.limits cfg.short

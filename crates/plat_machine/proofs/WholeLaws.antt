@@ -3,14 +3,14 @@ use Rattle.std.proofs.Common.{◌≡◌, ℕ, suc, zero, ◌+◌, ◌<◌, ◌�
 use Rattle.std.specs.List.{AllByRecursion}
 use Rattle.std.proofs.lemmas.Bool.{cases_Bool, ltb-false, le-ltb, le-leb}
 use Rattle.std.proofs.lemmas.List.{same_from_push}
-use Rattle.plat_base.specs.Lines.{LineText, lines_of}
+use Rattle.plat_grammar.specs.Lines.{LineText, lines_of}
 use Rattle.plat_base.specs.Machine.{Machine, is_machine}
 use Rattle.plat_base.specs.Text.{text_bytes}
 use Rattle.plat_base.specs.Canon.{Words, canon, canon_text, is_short, most_bytes}
-use Rattle.plat_base.specs.Forms.{◌>>=◌, Row, Rest, Gives, finished, refused, rest_of, over}
-use Rattle.plat_base.specs.FirstFault.{machine_at, text_at, text_from}
-use Rattle.plat_base.specs.Forms.{rows_of}
-use Rattle.plat_base.specs.Grammar.{IsMachine, IsClean, IsTextOf, IsFrontOf, line_words, has_words, word_lists}
+use Rattle.plat_grammar.specs.Forms.{◌>>=◌, Row, Rest, Gives, finished, refused, rest_of, over}
+use Rattle.plat_grammar.specs.FirstFault.{machine_at, text_at, text_from}
+use Rattle.plat_grammar.specs.Forms.{rows_of}
+use Rattle.plat_grammar.specs.Grammar.{IsMachine, IsClean, IsTextOf, IsFrontOf, line_words, has_words, word_lists}
 use Rattle.plat_base.specs.declared.faults.Refused.{Refused}
 use Rattle.plat_base.specs.declared.faults.TextFault.{TextFault}
 use Rattle.plat_base.specs.declared.faults.TextFault.TheVariants as fault

@@ -1,4 +1,3 @@
 pub mod Shown
 pub mod Printed
 pub mod PrintTried
-pub mod Named

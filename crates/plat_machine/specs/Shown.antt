@@ -1,8 +1,8 @@
 -- what contracts see of what is read
 use Rattle.std.specs.Prelude.{List, map, Option, option_map}
 use Rattle.plat_base.specs.Machine.{Machine, turns_of, programs_seen}
-use Rattle.plat_base.specs.FirstFault.{machine_with, Header as HeaderSeen}
-use Rattle.plat_base.specs.Drafts.{Draft as DraftSeen, Target as TargetSeen}
+use Rattle.plat_grammar.specs.FirstFault.{machine_with, Header as HeaderSeen}
+use Rattle.plat_grammar.specs.Drafts.{Draft as DraftSeen, Target as TargetSeen}
 use Rattle.plat_machine.specs.declared.headers.Header.{Header}
 use Rattle.plat_machine.specs.declared.whole.Front.{Front}
 use Rattle.plat_machine.specs.declared.instructions.Draft.{Draft}

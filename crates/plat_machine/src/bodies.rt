@@ -3,9 +3,9 @@ ghost use Rattle.std.specs.Prelude.{◌≡◌, ◌≤◌, bytes_eq, ◌<◌, ◌
 ghost use Rattle.std.specs.List.{list_any};
 ghost use Rattle.std.specs.Borrow.{Bor};
 ghost use Rattle.plat_base.specs.Labels.{is_label_name};
-ghost use Rattle.plat_base.specs.Forms.{Reads, Gives};
-ghost use Rattle.plat_base.specs.FirstFault.{label_line, body_line};
-ghost use Rattle.plat_base.specs.Drafts.{label_number, linked, with_label};
+ghost use Rattle.plat_grammar.specs.Forms.{Reads, Gives};
+ghost use Rattle.plat_grammar.specs.FirstFault.{label_line, body_line};
+ghost use Rattle.plat_grammar.specs.Drafts.{label_number, linked, with_label};
 ghost use Rattle.plat_base.specs.declared.faults.TextFault.TheVariants as fault;
 ghost use Rattle.plat_machine.specs.Shown.{draft, drafts};
 
@@ -57,7 +57,7 @@ impl<'a> Body<'a> {
     }
 
     /// Reads a label whose word `label` was taken.
-    #[tactic(auto, unfolding(plat_base::specs::FirstFault::label_line))]
+    #[tactic(auto, unfolding(plat_grammar::specs::FirstFault::label_line))]
     fn read_label(&self, row: &mut Row<'a>, at: u32) -> Result<&'a [u8], Refused>
         ensures reads { Reads (λ (name : Bor (Many ℕ)). record { name = name.now; at = at }) result (label_line at self.now.labels.items row.old) }
         ensures spelled { IfOk result (λ (name : Bor (Many ℕ)). IsTrue (is_label_name name.now)) }
@@ -105,7 +105,7 @@ impl<'a> Body<'a> {
     }
 
     /// Reads a line of the guest.
-    #[tactic(auto, unfolding(plat_base::specs::FirstFault::body_line))]
+    #[tactic(auto, unfolding(plat_grammar::specs::FirstFault::body_line))]
     pub fn add(&mut self, row: &mut Row<'a>) -> Result<(), TextFault>
         ensures { Gives (λ _. (drafts self.new.drafts.items, self.new.labels.items)) result
             (body_line (drafts self.old.drafts.items) self.old.labels.items row.old) }

@@ -1,9 +1,9 @@
 //! Guests of a machine text.
 ghost use Rattle.std.specs.Prelude.{◌≡◌, codes, []};
 ghost use Rattle.plat_base.specs.Machine.{program_seen, programs_seen};
-ghost use Rattle.plat_base.specs.Forms.{Reads, Gives, line_at};
-ghost use Rattle.plat_base.specs.FirstFault.{ends_guest, body_at, guest_at, guests_from};
-ghost use Rattle.plat_base.specs.Drafts.{code_from};
+ghost use Rattle.plat_grammar.specs.Forms.{Reads, Gives, line_at};
+ghost use Rattle.plat_grammar.specs.FirstFault.{ends_guest, body_at, guest_at, guests_from};
+ghost use Rattle.plat_grammar.specs.Drafts.{code_from};
 ghost use Rattle.plat_machine.specs.Shown.{drafts};
 
 use crate::bodies::Body;
@@ -46,7 +46,7 @@ fn code(alloc: Global, body: &Body<'_>) -> Result<List<Instr>, TextFault>
 }
 
 /// Reads a guest.
-#[tactic(auto, unfolding(plat_base::specs::FirstFault::guest_at))]
+#[tactic(auto, unfolding(plat_grammar::specs::FirstFault::guest_at))]
 fn guest(alloc: Global, rows: &mut Rows<'_>) -> Result<GuestText, TextFault>
     ensures { Gives (λ g. (program_seen g, rows.new)) result (guest_at rows.old) }
 {

@@ -1,8 +1,8 @@
 //! The lines before the distances of a machine text.
 ghost use Rattle.std.specs.Prelude.{◌≡◌, length, codes};
 ghost use Rattle.plat_base.specs.Machine.{turns_of};
-ghost use Rattle.plat_base.specs.Forms.{Reads, Gives, line_at, listed, number_in};
-ghost use Rattle.plat_base.specs.FirstFault.{number_line, size_of, size_line, version_line, platinum_line, policy_line, random_line, schedule_line, header_at};
+ghost use Rattle.plat_grammar.specs.Forms.{Reads, Gives, line_at, listed, number_in};
+ghost use Rattle.plat_grammar.specs.FirstFault.{number_line, size_of, size_line, version_line, platinum_line, policy_line, random_line, schedule_line, header_at};
 ghost use Rattle.plat_machine.specs.Shown.{header};
 
 use plat_base::{List, Plan, PolicyKind, Refused, TextFault, Why};
@@ -135,7 +135,7 @@ fn schedule(alloc: Global, row: &mut Row<'_>, nodes: u32) -> Result<Plan, TextFa
 }
 
 /// Reads the lines from `platinum` to `schedule`.
-#[tactic(auto, unfolding(plat_base::specs::FirstFault::header_at))]
+#[tactic(auto, unfolding(plat_grammar::specs::FirstFault::header_at))]
 pub fn read_header(alloc: Global, rows: &mut Rows<'_>) -> Result<Header, TextFault>
     ensures { Gives (λ h. (header h, rows.new)) result (header_at rows.old) }
 {

@@ -2,8 +2,8 @@
 ghost use Rattle.std.specs.Prelude.{◌≡◌, ◌<◌, None, OnOk};
 ghost use Rattle.std.specs.List.{list_all};
 ghost use Rattle.plat_base.specs.Labels.{is_label_byte, is_label_name};
-ghost use Rattle.plat_base.specs.Forms.{Reads, refused, chosen};
-ghost use Rattle.plat_base.specs.Drafts.{register_of, register, address, two_registers, three_registers, instructions, instruction_line, name_of, target as label_at, set_line, move_line, add_line, sub_line, mul_line, and_line, shr_line, load_line, store_line, fadd_line, switch_line, print_line, jump_line, zero_line, less_line, halt_line};
+ghost use Rattle.plat_grammar.specs.Forms.{Reads, refused, chosen};
+ghost use Rattle.plat_grammar.specs.Drafts.{register_of, register, address, two_registers, three_registers, instructions, instruction_line, name_of, target as label_at, set_line, move_line, add_line, sub_line, mul_line, and_line, shr_line, load_line, store_line, fadd_line, switch_line, print_line, jump_line, zero_line, less_line, halt_line};
 ghost use Rattle.plat_base.specs.declared.faults.Why.TheVariants as why;
 ghost use Rattle.plat_machine.specs.Shown.{draft, target};
 
@@ -35,7 +35,7 @@ fn plain<'a>(instr: Instr) -> Draft<'a>
     }
 }
 
-#[tactic(auto, unfolding(plat_base::specs::Drafts::register_of))]
+#[tactic(auto, unfolding(plat_grammar::specs::Drafts::register_of))]
 fn read_register(word: &[u8]) -> Result<u32, Why>
     ensures { result ≡ register_of word.now }
 {
@@ -135,7 +135,7 @@ fn three_registers(row: &mut Row<'_>) -> Result<(u32, u32, u32), Refused>
     Ok((d, a, b))
 }
 
-#[tactic(auto, unfolding(plat_base::specs::Drafts::set_line))]
+#[tactic(auto, unfolding(plat_grammar::specs::Drafts::set_line))]
 fn set<'a>(row: &mut Row<'a>) -> Result<Draft<'a>, Refused>
     ensures { Reads draft result (set_line row.old) }
 {
@@ -145,7 +145,7 @@ fn set<'a>(row: &mut Row<'a>) -> Result<Draft<'a>, Refused>
     Ok(plain(Instr::Set { d, n }))
 }
 
-#[tactic(auto, unfolding(plat_base::specs::Drafts::move_line))]
+#[tactic(auto, unfolding(plat_grammar::specs::Drafts::move_line))]
 fn move_<'a>(row: &mut Row<'a>) -> Result<Draft<'a>, Refused>
     ensures { Reads draft result (move_line row.old) }
 {
@@ -153,7 +153,7 @@ fn move_<'a>(row: &mut Row<'a>) -> Result<Draft<'a>, Refused>
     Ok(plain(Instr::Move { d, a }))
 }
 
-#[tactic(auto, unfolding(plat_base::specs::Drafts::add_line))]
+#[tactic(auto, unfolding(plat_grammar::specs::Drafts::add_line))]
 fn add<'a>(row: &mut Row<'a>) -> Result<Draft<'a>, Refused>
     ensures { Reads draft result (add_line row.old) }
 {
@@ -161,7 +161,7 @@ fn add<'a>(row: &mut Row<'a>) -> Result<Draft<'a>, Refused>
     Ok(plain(Instr::Add { d, a, b }))
 }
 
-#[tactic(auto, unfolding(plat_base::specs::Drafts::sub_line))]
+#[tactic(auto, unfolding(plat_grammar::specs::Drafts::sub_line))]
 fn sub<'a>(row: &mut Row<'a>) -> Result<Draft<'a>, Refused>
     ensures { Reads draft result (sub_line row.old) }
 {
@@ -169,7 +169,7 @@ fn sub<'a>(row: &mut Row<'a>) -> Result<Draft<'a>, Refused>
     Ok(plain(Instr::Sub { d, a, b }))
 }
 
-#[tactic(auto, unfolding(plat_base::specs::Drafts::mul_line))]
+#[tactic(auto, unfolding(plat_grammar::specs::Drafts::mul_line))]
 fn mul<'a>(row: &mut Row<'a>) -> Result<Draft<'a>, Refused>
     ensures { Reads draft result (mul_line row.old) }
 {
@@ -177,7 +177,7 @@ fn mul<'a>(row: &mut Row<'a>) -> Result<Draft<'a>, Refused>
     Ok(plain(Instr::Mul { d, a, b }))
 }
 
-#[tactic(auto, unfolding(plat_base::specs::Drafts::and_line))]
+#[tactic(auto, unfolding(plat_grammar::specs::Drafts::and_line))]
 fn and<'a>(row: &mut Row<'a>) -> Result<Draft<'a>, Refused>
     ensures { Reads draft result (and_line row.old) }
 {
@@ -185,7 +185,7 @@ fn and<'a>(row: &mut Row<'a>) -> Result<Draft<'a>, Refused>
     Ok(plain(Instr::And { d, a, b }))
 }
 
-#[tactic(auto, unfolding(plat_base::specs::Drafts::shr_line))]
+#[tactic(auto, unfolding(plat_grammar::specs::Drafts::shr_line))]
 fn shr<'a>(row: &mut Row<'a>) -> Result<Draft<'a>, Refused>
     ensures { Reads draft result (shr_line row.old) }
 {
@@ -193,7 +193,7 @@ fn shr<'a>(row: &mut Row<'a>) -> Result<Draft<'a>, Refused>
     Ok(plain(Instr::Shr { d, a, b }))
 }
 
-#[tactic(auto, unfolding(plat_base::specs::Drafts::load_line))]
+#[tactic(auto, unfolding(plat_grammar::specs::Drafts::load_line))]
 fn load<'a>(row: &mut Row<'a>) -> Result<Draft<'a>, Refused>
     ensures { Reads draft result (load_line row.old) }
 {
@@ -202,7 +202,7 @@ fn load<'a>(row: &mut Row<'a>) -> Result<Draft<'a>, Refused>
     Ok(plain(Instr::Load { d, k, i }))
 }
 
-#[tactic(auto, unfolding(plat_base::specs::Drafts::store_line))]
+#[tactic(auto, unfolding(plat_grammar::specs::Drafts::store_line))]
 fn store<'a>(row: &mut Row<'a>) -> Result<Draft<'a>, Refused>
     ensures { Reads draft result (store_line row.old) }
 {
@@ -211,7 +211,7 @@ fn store<'a>(row: &mut Row<'a>) -> Result<Draft<'a>, Refused>
     Ok(plain(Instr::Store { s, k, i }))
 }
 
-#[tactic(auto, unfolding(plat_base::specs::Drafts::fadd_line))]
+#[tactic(auto, unfolding(plat_grammar::specs::Drafts::fadd_line))]
 fn fadd<'a>(row: &mut Row<'a>) -> Result<Draft<'a>, Refused>
     ensures { Reads draft result (fadd_line row.old) }
 {
@@ -221,7 +221,7 @@ fn fadd<'a>(row: &mut Row<'a>) -> Result<Draft<'a>, Refused>
     Ok(plain(Instr::Fadd { d, s, k, i }))
 }
 
-#[tactic(auto, unfolding(plat_base::specs::Drafts::switch_line))]
+#[tactic(auto, unfolding(plat_grammar::specs::Drafts::switch_line))]
 fn switch<'a>(row: &mut Row<'a>) -> Result<Draft<'a>, Refused>
     ensures { Reads draft result (switch_line row.old) }
 {
@@ -230,7 +230,7 @@ fn switch<'a>(row: &mut Row<'a>) -> Result<Draft<'a>, Refused>
     Ok(plain(Instr::Switch(space)))
 }
 
-#[tactic(auto, unfolding(plat_base::specs::Drafts::print_line))]
+#[tactic(auto, unfolding(plat_grammar::specs::Drafts::print_line))]
 fn print<'a>(row: &mut Row<'a>) -> Result<Draft<'a>, Refused>
     ensures { Reads draft result (print_line row.old) }
 {
@@ -239,7 +239,7 @@ fn print<'a>(row: &mut Row<'a>) -> Result<Draft<'a>, Refused>
     Ok(plain(Instr::Print(s)))
 }
 
-#[tactic(auto, unfolding(plat_base::specs::Drafts::jump_line))]
+#[tactic(auto, unfolding(plat_grammar::specs::Drafts::jump_line))]
 fn jump<'a>(row: &mut Row<'a>) -> Result<Draft<'a>, Refused>
     ensures { Reads draft result (jump_line row.old) }
 {
@@ -251,7 +251,7 @@ fn jump<'a>(row: &mut Row<'a>) -> Result<Draft<'a>, Refused>
     })
 }
 
-#[tactic(auto, unfolding(plat_base::specs::Drafts::zero_line))]
+#[tactic(auto, unfolding(plat_grammar::specs::Drafts::zero_line))]
 fn zero<'a>(row: &mut Row<'a>) -> Result<Draft<'a>, Refused>
     ensures { Reads draft result (zero_line row.old) }
 {
@@ -264,7 +264,7 @@ fn zero<'a>(row: &mut Row<'a>) -> Result<Draft<'a>, Refused>
     })
 }
 
-#[tactic(auto, unfolding(plat_base::specs::Drafts::less_line))]
+#[tactic(auto, unfolding(plat_grammar::specs::Drafts::less_line))]
 fn less<'a>(row: &mut Row<'a>) -> Result<Draft<'a>, Refused>
     ensures { Reads draft result (less_line row.old) }
 {
@@ -278,7 +278,7 @@ fn less<'a>(row: &mut Row<'a>) -> Result<Draft<'a>, Refused>
     })
 }
 
-#[tactic(auto, unfolding(plat_base::specs::Drafts::halt_line))]
+#[tactic(auto, unfolding(plat_grammar::specs::Drafts::halt_line))]
 fn halt<'a>(row: &mut Row<'a>) -> Result<Draft<'a>, Refused>
     ensures { Reads draft result (halt_line row.old) }
 {
@@ -343,7 +343,7 @@ fn kind<'a>(row: &mut Row<'a>, line: u32, first: Token<'a>) -> Result<Draft<'a>,
 }
 
 /// Reads an instruction of a guest that has so many.
-#[tactic(auto, unfolding(plat_base::specs::Drafts::instruction_line))]
+#[tactic(auto, unfolding(plat_grammar::specs::Drafts::instruction_line))]
 pub fn instruction<'a>(row: &mut Row<'a>, count: usize) -> Result<Draft<'a>, Refused>
     ensures reads { Reads draft result (instruction_line count row.old) }
     ensures room { OnOk result (count < 4096) }

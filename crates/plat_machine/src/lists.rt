@@ -2,8 +2,8 @@
 ghost use Rattle.std.specs.Prelude.{◌≡◌};
 ghost use Rattle.std.specs.List.{list_any};
 ghost use Rattle.plat_base.specs.Machine.{same_nodes, same_place, same_word};
-ghost use Rattle.plat_base.specs.Forms.{Reads, Gives, once};
-ghost use Rattle.plat_base.specs.FirstFault.{other_node, distance_line, entry_line, init_line, distances_at, entries_at, inits_at};
+ghost use Rattle.plat_grammar.specs.Forms.{Reads, Gives, once};
+ghost use Rattle.plat_grammar.specs.FirstFault.{other_node, distance_line, entry_line, init_line, distances_at, entries_at, inits_at};
 
 use plat_base::{Distance, Entry, Init, List, Refused, TextFault, Why};
 use plat_text::{Row, Rows, at_word, read_u32, refusal};
@@ -22,7 +22,7 @@ fn read_other(word: &[u8], nodes: u32, a: u32) -> Result<u32, Why>
     }
 }
 
-#[tactic(auto, unfolding(plat_base::specs::FirstFault::distance_line))]
+#[tactic(auto, unfolding(plat_grammar::specs::FirstFault::distance_line))]
 fn distance(row: &mut Row<'_>, nodes: u32) -> Result<Distance, Refused>
     ensures { Reads (λ d. d) result (distance_line nodes row.old) }
 {
@@ -35,7 +35,7 @@ fn distance(row: &mut Row<'_>, nodes: u32) -> Result<Distance, Refused>
     Ok(Distance { a, b, d })
 }
 
-#[tactic(auto, unfolding(plat_base::specs::FirstFault::entry_line))]
+#[tactic(auto, unfolding(plat_grammar::specs::FirstFault::entry_line))]
 fn entry(row: &mut Row<'_>, pages: u32) -> Result<Entry, Refused>
     ensures { Reads (λ e. e) result (entry_line pages row.old) }
 {
@@ -46,7 +46,7 @@ fn entry(row: &mut Row<'_>, pages: u32) -> Result<Entry, Refused>
     Ok(Entry { space, vpage, page })
 }
 
-#[tactic(auto, unfolding(plat_base::specs::FirstFault::init_line))]
+#[tactic(auto, unfolding(plat_grammar::specs::FirstFault::init_line))]
 fn init(row: &mut Row<'_>, pages: u32, words: u32) -> Result<Init, Refused>
     ensures { Reads (λ i. i) result (init_line pages words row.old) }
 {
@@ -114,7 +114,7 @@ fn new_init(row: &mut Row<'_>, pages: u32, words: u32, seen: &[Init]) -> Result<
 }
 
 /// Reads the `distance` lines.
-#[tactic(auto, using(plat_text::proofs::FormLemmas::repeated_steps), unfolding(plat_base::specs::FirstFault::distances_at))]
+#[tactic(auto, using(plat_text::proofs::FormLemmas::repeated_steps), unfolding(plat_grammar::specs::FirstFault::distances_at))]
 pub fn distances(
     alloc: Global,
     rows: &mut Rows<'_>,
@@ -132,7 +132,7 @@ pub fn distances(
 }
 
 /// Reads the `map` lines.
-#[tactic(auto, using(plat_text::proofs::FormLemmas::repeated_steps), unfolding(plat_base::specs::FirstFault::entries_at))]
+#[tactic(auto, using(plat_text::proofs::FormLemmas::repeated_steps), unfolding(plat_grammar::specs::FirstFault::entries_at))]
 pub fn entries(alloc: Global, rows: &mut Rows<'_>, pages: u32) -> Result<List<Entry>, TextFault>
     ensures { Gives (λ list. (list.items, rows.new)) result (entries_at pages rows.old) }
 {
@@ -146,7 +146,7 @@ pub fn entries(alloc: Global, rows: &mut Rows<'_>, pages: u32) -> Result<List<En
 }
 
 /// Reads the `init` lines.
-#[tactic(auto, using(plat_text::proofs::FormLemmas::repeated_steps), unfolding(plat_base::specs::FirstFault::inits_at))]
+#[tactic(auto, using(plat_text::proofs::FormLemmas::repeated_steps), unfolding(plat_grammar::specs::FirstFault::inits_at))]
 pub fn inits(
     alloc: Global,
     rows: &mut Rows<'_>,

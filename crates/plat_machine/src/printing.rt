@@ -1,14 +1,13 @@
 //! The canonical text of a machine.
-ghost use Rattle.std.specs.Prelude.{◌≡◌, ◌∷◌, [], map, IsTrue, OnOk, Ok};
+ghost use Rattle.std.specs.Prelude.{◌≡◌, ◌∷◌, [], map, IsTrue, Ok};
 ghost use Rattle.std.specs.List.{flat_map, list_all};
 ghost use Rattle.plat_base.specs.Canon.{canon_text, distance_words, entry_words, init_words};
-ghost use Rattle.plat_base.specs.FirstFault.{text_at};
-ghost use Rattle.plat_base.specs.Grammar.{IsTextOf};
+ghost use Rattle.plat_grammar.specs.FirstFault.{text_at};
+ghost use Rattle.plat_grammar.specs.Grammar.{IsTextOf};
 ghost use Rattle.plat_base.specs.Machine.{is_program, programs_seen};
 ghost use Rattle.plat_base.specs.Seen.{machine};
 ghost use Rattle.plat_io.specs.Adds.{Adds};
 ghost use Rattle.plat_io.specs.Lines.{AddsLines};
-ghost use Rattle.plat_machine.specs.Named.{GuestsNamed};
 ghost use Rattle.plat_machine.specs.Printed.{policy_line, schedule_line, size_lines, setting_lines, head_lines, guest_lines, body_lines, machine_lines};
 
 use crate::printing_guests::write_guest;
@@ -19,18 +18,17 @@ use plat_io::{Sink, WriteFault, write_line, write_list_line};
 /// Writes the canonical text of a machine. It takes no memory.
 pub fn print_machine<K: Sink>(cfg: &Config, sink: &mut K) -> Result<(), WriteFault>
     ensures written { Adds K.Sink sink.old sink.new result (canon_text (machine cfg.now)) }
-    // What is written whole is in the grammar of the machine.
-    ensures text { OnOk result (IsTextOf (canon_text (machine cfg.now)) (machine cfg.now)) }
+    // This text is in the grammar of the machine.
+    ensures text { IsTextOf (canon_text (machine cfg.now)) (machine cfg.now) }
     // So it is read as this machine again.
-    ensures read_again { OnOk result (text_at (canon_text (machine cfg.now)) ≡ Ok (machine cfg.now)) }
+    ensures read_again { text_at (canon_text (machine cfg.now)) ≡ Ok (machine cfg.now) }
 {
     write_machine(sink, cfg)
 }
 
 #[tactic(auto, using(plat_io::proofs::LineLemmas::lines, crate::proofs::PrintLimits::guests_within))]
 fn write_machine<K: Sink>(sink: &mut K, cfg: &Config) -> Result<(), WriteFault>
-    ensures lines { AddsLines K.Sink sink.old sink.new result (machine_lines cfg.now) }
-    ensures named { OnOk result (GuestsNamed cfg.now.guests.items) }
+    ensures { AddsLines K.Sink sink.old sink.new result (machine_lines cfg.now) }
 {
     write_head(sink, cfg)?;
     write_body(
@@ -124,8 +122,7 @@ fn write_body<K: Sink>(
     guests: &[GuestText],
 ) -> Result<(), WriteFault>
     requires { IsTrue (list_all is_program (programs_seen guests.now)) }
-    ensures lines { AddsLines K.Sink sink.old sink.new result (body_lines distances.now entries.now inits.now guests.now) }
-    ensures named { OnOk result (GuestsNamed guests.now) }
+    ensures { AddsLines K.Sink sink.old sink.new result (body_lines distances.now entries.now inits.now guests.now) }
 {
     write_distances(sink, distances)?;
     write_entries(sink, entries)?;
@@ -176,8 +173,7 @@ fn write_inits<K: Sink>(sink: &mut K, inits: &[Init]) -> Result<(), WriteFault>
 #[tactic(auto, using(plat_io::proofs::LineLemmas::looped_lines, crate::proofs::PrintLimits::guest_within))]
 fn write_guests<K: Sink>(sink: &mut K, guests: &[GuestText]) -> Result<(), WriteFault>
     requires { IsTrue (list_all is_program (programs_seen guests.now)) }
-    ensures lines { AddsLines K.Sink sink.old sink.new result (flat_map guest_lines guests.now) }
-    ensures named { OnOk result (GuestsNamed guests.now) }
+    ensures { AddsLines K.Sink sink.old sink.new result (flat_map guest_lines guests.now) }
 {
     for guest in guests {
         write_guest(sink, guest)?;

@@ -1,11 +1,10 @@
 //! The lines of a guest: its head, its instructions, and its labels among them.
-ghost use Rattle.std.specs.Prelude.{◌≡◌, ◌-◌, ◌<◌, ◌≤◌, ◌∷◌, [], codes, map, length, take, drop, IsTrue, OnOk};
+ghost use Rattle.std.specs.Prelude.{◌≡◌, ◌-◌, ◌<◌, ◌≤◌, ◌∷◌, [], codes, map, length, take, drop, IsTrue};
 ghost use Rattle.std.specs.List.{list_all};
 ghost use Rattle.std.specs.Fmt.{decimal};
 ghost use Rattle.plat_base.specs.Canon.{register_word, index_words, instr_words, label_name, label_words, with_labels};
 ghost use Rattle.plat_base.specs.Machine.{is_instr, is_program, labels_rise, program_seen};
 ghost use Rattle.plat_io.specs.Lines.{spelling, AddsLines};
-ghost use Rattle.plat_machine.specs.Named.{IsNamed, AreNamed};
 ghost use Rattle.plat_machine.specs.Printed.{guest_lines};
 
 use plat_base::{GuestText, Instr, Label};
@@ -16,8 +15,7 @@ use plat_io::{Sink, Word, WriteFault, write_line};
 #[tactic(auto, using(plat_io::proofs::LineLemmas::lines, crate::proofs::PrintLimits::program_parts), unfolding(crate::specs::Printed::guest_lines))]
 pub(crate) fn write_guest<K: Sink>(sink: &mut K, guest: &GuestText) -> Result<(), WriteFault>
     requires { IsTrue (is_program (program_seen guest.now)) }
-    ensures lines { AddsLines K.Sink sink.old sink.new result (guest_lines guest.now) }
-    ensures named { OnOk result (AreNamed guest.now.labels.items) }
+    ensures { AddsLines K.Sink sink.old sink.new result (guest_lines guest.now) }
 {
     write_line(sink, &[Text(b"guest"), Number(guest.space)])?;
     write_labelled(sink, guest.labels.as_slice(), guest.code.as_slice())
@@ -27,8 +25,7 @@ pub(crate) fn write_guest<K: Sink>(sink: &mut K, guest: &GuestText) -> Result<()
 fn write_labelled<K: Sink>(sink: &mut K, labels: &[Label], code: &[Instr]) -> Result<(), WriteFault>
     requires instructions { IsTrue (list_all (is_instr (length labels.now)) code.now) }
     requires rising { IsTrue (labels_rise 0 (length code.now) labels.now) }
-    ensures lines { AddsLines K.Sink sink.old sink.new result (with_labels 0 (map (instr_words (label_name labels.now)) code.now) labels.now) }
-    ensures named { OnOk result (AreNamed labels.now) }
+    ensures { AddsLines K.Sink sink.old sink.new result (with_labels 0 (map (instr_words (label_name labels.now)) code.now) labels.now) }
 {
     let mut at = 0;
     for label in labels {
@@ -41,8 +38,7 @@ fn write_labelled<K: Sink>(sink: &mut K, labels: &[Label], code: &[Instr]) -> Re
 }
 
 fn write_label<K: Sink>(sink: &mut K, label: &Label) -> Result<(), WriteFault>
-    ensures line { AddsLines K.Sink sink.old sink.new result (label_words label.now ∷ []) }
-    ensures named { IsNamed label.now }
+    ensures { AddsLines K.Sink sink.old sink.new result (label_words label.now ∷ []) }
 {
     write_line(sink, &[Text(b"label"), Text(label.name.bytes())])
 }

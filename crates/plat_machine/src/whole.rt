@@ -3,9 +3,9 @@ ghost use Rattle.std.specs.Prelude.{◌≡◌, ◌+◌, ◌<◌, length, IfOk, I
 ghost use Rattle.plat_base.specs.Machine.{Machine};
 ghost use Rattle.plat_base.specs.Seen.{machine};
 ghost use Rattle.plat_base.specs.Canon.{is_short};
-ghost use Rattle.plat_base.specs.Forms.{Reads, Gives};
-ghost use Rattle.plat_base.specs.FirstFault.{front_at, end_line, machine_at, text_at, text_from};
-ghost use Rattle.plat_base.specs.Grammar.{IsMachine, IsTextOf, IsFrontOf};
+ghost use Rattle.plat_grammar.specs.Forms.{Reads, Gives};
+ghost use Rattle.plat_grammar.specs.FirstFault.{front_at, end_line, machine_at, text_at, text_from};
+ghost use Rattle.plat_grammar.specs.Grammar.{IsMachine, IsTextOf, IsFrontOf};
 ghost use Rattle.plat_machine.specs.Shown.{front};
 
 use crate::guests::guests;
@@ -28,7 +28,7 @@ pub struct Front {
     pub guests: List<GuestText>,
 }
 
-#[tactic(auto, unfolding(plat_base::specs::FirstFault::front_at))]
+#[tactic(auto, unfolding(plat_grammar::specs::FirstFault::front_at))]
 fn read_front(alloc: Global, rows: &mut Rows<'_>) -> Result<Front, TextFault>
     ensures { Gives (λ f. (front f, rows.new)) result (front_at rows.old) }
 {
@@ -46,7 +46,7 @@ fn read_front(alloc: Global, rows: &mut Rows<'_>) -> Result<Front, TextFault>
     })
 }
 
-#[tactic(auto, unfolding(plat_base::specs::FirstFault::end_line))]
+#[tactic(auto, unfolding(plat_grammar::specs::FirstFault::end_line))]
 fn end(rows: &mut Rows<'_>, short: bool) -> Result<u32, Refused>
     ensures { Reads (λ next. (next, rows.new)) result (end_line short rows.old) }
 {
@@ -64,7 +64,7 @@ fn end(rows: &mut Rows<'_>, short: bool) -> Result<u32, Refused>
 }
 
 /// Reads a machine text from here on, and gives the number of the line after its line `end`.
-#[tactic(auto, unfolding(plat_base::specs::FirstFault::machine_at))]
+#[tactic(auto, unfolding(plat_grammar::specs::FirstFault::machine_at))]
 pub fn read_machine(alloc: Global, rows: &mut Rows<'_>) -> Result<(Config, u32), TextFault>
     ensures { Gives (λ r. ((machine r.0, r.1), rows.new)) result (machine_at rows.old) }
 {
@@ -104,7 +104,7 @@ pub fn read_machine(alloc: Global, rows: &mut Rows<'_>) -> Result<(Config, u32),
     Ok((config, next))
 }
 
-#[tactic(auto, unfolding(plat_base::specs::FirstFault::text_at))]
+#[tactic(auto, unfolding(plat_grammar::specs::FirstFault::text_at))]
 fn read_text(alloc: Global, bytes: &[u8]) -> Result<Config, TextFault>
     ensures { Gives machine result (text_at bytes.now) }
 {
@@ -133,7 +133,7 @@ pub fn parse(alloc: Global, bytes: &[u8]) -> Result<Config, TextFault>
     read_text(alloc, bytes)
 }
 
-#[tactic(auto, unfolding(plat_base::specs::FirstFault::text_from))]
+#[tactic(auto, unfolding(plat_grammar::specs::FirstFault::text_from))]
 fn read_text_from(alloc: Global, bytes: &[u8], first_line: u32) -> Result<(Config, u32), TextFault>
     requires { first_line + length bytes.now < 4294967295 }
     ensures { Gives (λ r. (machine r.0, r.1)) result (text_from first_line bytes.now) }

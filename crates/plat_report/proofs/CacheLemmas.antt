@@ -1,10 +1,12 @@
 -- the counts of a cache rise by at most one for each item
 use Rattle.std.proofs.Common.{ℕ, ◌+◌, ◌<◌, ◌≤◌, ◌&&◌, Bool, true, false, List, [], ◌∷◌, length, take, map, arith, if◌then◌else◌, Option}
-use Rattle.std.specs.Prelude.{◌==◌, slice_index_or, ◌%◌, None}
+use Rattle.std.specs.Prelude.{◌==◌, ◌/◌, slice_index_or, ◌%◌, Some, None}
 use Rattle.std.specs.List.{fold}
 use Rattle.std.proofs.lemmas.List.{length-take}
 use Rattle.plat_base.specs.Machine.{Machine}
-use Rattle.plat_base.specs.Cache.{Cache, Place, cache_of, cache_after, cache_start, accessed, serves_access, with_places, without_page, without_entry, removes_any, no_places}
+use Rattle.plat_base.specs.Cache.{Cache, Place, cache_of, cache_after, cache_start, accessed, accessed_through, serves_access, with_places, without_page, without_entry, removes_any, no_places}
+use Rattle.plat_base.specs.Pages.{entry_at}
+use Rattle.plat_base.specs.Flat.{is_write}
 use Rattle.plat_base.specs.declared.items.Item.{Item}
 use Rattle.plat_base.specs.declared.items.Item.TheVariants as item
 use Rattle.plat_report.specs.Counts.{most}
@@ -25,11 +27,15 @@ IsNext-accessed entry vpage writes c =
     IsNext-if (serves_access entry writes (slice_index_or c.places (vpage % 8) None)) c _ _
     (record { hits = omega arith; misses = omega arith }) (record { hits = omega arith; misses = omega arith })
 
+IsNext-through : (entry : Option ℕ) (vpage : ℕ) (writes : Bool) (c : Cache) → IsNext c (accessed_through entry vpage writes c)
+IsNext-through None vpage writes c = IsNext-itself c
+IsNext-through (Some entry) vpage writes c = IsNext-accessed entry vpage writes c
+
 IsNext-with_places : (c : Cache) (places : List (Option Place)) → IsNext c (with_places c places)
 IsNext-with_places c places = record { hits = omega arith; misses = omega arith }
 
 IsNext-after : (m : Machine) (q : ℕ) (c : Cache) (i : Item) → IsNext c (cache_after m q c i)
-IsNext-after m q c (item.Access a) = IsNext-if (a.actor == q) c _ _ (IsNext-accessed _ _ _ c) (IsNext-itself c)
+IsNext-after m q c (item.Access a) = IsNext-if (a.actor == q) c _ _ (IsNext-through (entry_at m a.space (a.addr / m.words)) (a.addr / m.words) (is_write a.kind) c) (IsNext-itself c)
 IsNext-after m q c (item.Change x) = IsNext-if (x.actor == q && removes_any x) c _ _ (IsNext-with_places c (map (without_page m x.page) c.places)) (IsNext-itself c)
 IsNext-after m q c (item.Applied x) = IsNext-if (x.actor == q) c _ _ (IsNext-with_places c (map (without_entry x.entry) c.places)) (IsNext-itself c)
 IsNext-after m q c (item.Switch s) = IsNext-if (s.actor == q) c _ _ (IsNext-with_places c no_places) (IsNext-itself c)

@@ -1,4 +1,5 @@
 //! The cache of translations that a processor would have: hits and misses, by its own items.
+ghost use Rattle.plat_base.specs.declared.limits.TheConstants.{MOST_ITEMS};
 ghost use Rattle.std.specs.Prelude.{◌≡◌, ◌≤◌, ◌<◌, length, map};
 ghost use Rattle.plat_base.specs.Pages.{page_of};
 ghost use Rattle.plat_base.specs.Seen.{machine};
@@ -6,7 +7,7 @@ ghost use Rattle.plat_base.specs.Cache.{cache_of, cache_after, serves_access, wi
 ghost use Rattle.plat_report.specs.Caches.{with_access};
 ghost use Rattle.plat_report.specs.Counts.{most};
 
-use plat_base::{Access, Config, Item, Kind, Removed};
+use plat_base::{Access, Config, Item, Kind, PAGES, Removed};
 use plat_guest::entry_at;
 use std::marker::Model;
 
@@ -82,7 +83,7 @@ fn page_of(cfg: &Config, entry: u32) -> u32
 {
     match cfg.entries.as_slice().get(entry as usize) {
         Some(found) => found.page,
-        None => 0,
+        None => PAGES,
     }
 }
 
@@ -107,7 +108,7 @@ fn drop_page(cfg: &Config, places: &mut [Option<Place>], page: u32)
 impl CacheCounts {
     /// The cache of processor `q` after these items.
     pub(crate) fn of(cfg: &Config, q: u32, items: &[Item]) -> CacheCounts
-        requires { length items.now ≤ 2621440 }
+        requires { length items.now ≤ MOST_ITEMS }
         ensures { result ≡ cache_of (machine cfg.now) items.now q }
     {
         let mut cache = CacheCounts {
@@ -157,7 +158,9 @@ impl CacheCounts {
         ensures { self.new ≡ with_access (machine cfg.now) access.now self.old }
     {
         let vpage = access.addr / cfg.words;
-        let entry = entry_at(cfg, access.space, vpage).unwrap_or(0);
+        let Some(entry) = entry_at(cfg, access.space, vpage) else {
+            return;
+        };
         let writes = access.kind != Kind::Load;
         let at = (vpage % 8) as usize;
         if serves_access(entry, writes, self.places[at]) {

@@ -1,4 +1,5 @@
 //! How many accesses, changes and applied messages of each kind a history has.
+ghost use Rattle.plat_base.specs.declared.limits.TheConstants.{MOST_ITEMS};
 ghost use Rattle.std.specs.Prelude.{◌≡◌, ◌≤◌, length};
 ghost use Rattle.plat_report.specs.Counts.{access_counts, change_counts, applied_counts, with_access, with_change, with_applied, AccessRoom, ChangeRoom, AppliedRoom};
 
@@ -38,7 +39,7 @@ impl AccessCounts {
     /// The counts of processor `q`'s accesses among these items.
     #[tactic(auto, using(crate::proofs::CountLemmas::access_counts_more))]
     pub(crate) fn of(q: u32, items: &[Item]) -> AccessCounts
-        requires { length items.now ≤ 2621440 }
+        requires { length items.now ≤ MOST_ITEMS }
         ensures { result ≡ access_counts q items.now }
     {
         let mut counts = AccessCounts {
@@ -81,7 +82,7 @@ impl ChangeCounts {
     /// The counts of the changes among these items.
     #[tactic(auto, using(crate::proofs::CountLemmas::change_counts_more))]
     pub(crate) fn of(items: &[Item]) -> ChangeCounts
-        requires { length items.now ≤ 2621440 }
+        requires { length items.now ≤ MOST_ITEMS }
         ensures { result ≡ change_counts items.now }
     {
         let mut counts = ChangeCounts {
@@ -126,7 +127,7 @@ impl AppliedCounts {
     /// The counts of the applied messages among these items.
     #[tactic(auto, using(crate::proofs::CountLemmas::applied_counts_more))]
     pub(crate) fn of(items: &[Item]) -> AppliedCounts
-        requires { length items.now ≤ 2621440 }
+        requires { length items.now ≤ MOST_ITEMS }
         ensures { result ≡ applied_counts items.now }
     {
         let mut counts = AppliedCounts {

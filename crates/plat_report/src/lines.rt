@@ -1,4 +1,5 @@
 //! The lines of counts: of each processor's accesses and cache, and of the whole history.
+ghost use Rattle.plat_base.specs.declared.limits.TheConstants.{MOST_ITEMS};
 ghost use Rattle.std.specs.Prelude.{◌≤◌, ◌∷◌, [], length};
 ghost use Rattle.std.specs.List.{flat_map};
 ghost use Rattle.plat_base.specs.Seen.{machine};
@@ -14,7 +15,7 @@ use plat_io::{Sink, WriteFault};
 
 /// Writes the counts of a processor's accesses.
 fn write_accesses<K: Sink>(items: &[Item], q: u32, sink: &mut K) -> Result<(), WriteFault>
-    requires { length items.now ≤ 2621440 }
+    requires { length items.now ≤ MOST_ITEMS }
     ensures { AddsLines K.Sink sink.old sink.new result (access_line items.now q ∷ []) }
 {
     let counts = AccessCounts::of(q, items);
@@ -44,7 +45,7 @@ fn write_cache<K: Sink>(
     q: u32,
     sink: &mut K,
 ) -> Result<(), WriteFault>
-    requires { length items.now ≤ 2621440 }
+    requires { length items.now ≤ MOST_ITEMS }
     ensures { AddsLines K.Sink sink.old sink.new result (cache_line (machine cfg.now) items.now q ∷ []) }
 {
     let cache = CacheCounts::of(cfg, q, items);
@@ -69,7 +70,7 @@ fn write_count<K: Sink>(
     q: u32,
     sink: &mut K,
 ) -> Result<(), WriteFault>
-    requires { length items.now ≤ 2621440 }
+    requires { length items.now ≤ MOST_ITEMS }
     ensures { AddsLines K.Sink sink.old sink.new result (count_lines (machine cfg.now) items.now q) }
 {
     write_accesses(items, q, sink)?;
@@ -82,7 +83,7 @@ pub(crate) fn write_counts<K: Sink>(
     items: &[Item],
     sink: &mut K,
 ) -> Result<(), WriteFault>
-    requires { length items.now ≤ 2621440 }
+    requires { length items.now ≤ MOST_ITEMS }
     ensures { AddsLines K.Sink sink.old sink.new result (flat_map (count_lines (machine cfg.now) items.now) (numbers cfg.now.nodes)) }
 {
     for q in 0..cfg.nodes {
@@ -93,7 +94,7 @@ pub(crate) fn write_counts<K: Sink>(
 
 /// Writes the counts of the changes.
 fn write_changes<K: Sink>(items: &[Item], sink: &mut K) -> Result<(), WriteFault>
-    requires { length items.now ≤ 2621440 }
+    requires { length items.now ≤ MOST_ITEMS }
     ensures { AddsLines K.Sink sink.old sink.new result (changes_line items.now ∷ []) }
 {
     let counts = ChangeCounts::of(items);
@@ -123,7 +124,7 @@ fn write_changes<K: Sink>(items: &[Item], sink: &mut K) -> Result<(), WriteFault
 
 /// Writes the counts of the applied messages.
 fn write_applied<K: Sink>(items: &[Item], sink: &mut K) -> Result<(), WriteFault>
-    requires { length items.now ≤ 2621440 }
+    requires { length items.now ≤ MOST_ITEMS }
     ensures { AddsLines K.Sink sink.old sink.new result (applied_line items.now ∷ []) }
 {
     let counts = AppliedCounts::of(items);
@@ -142,7 +143,7 @@ fn write_applied<K: Sink>(items: &[Item], sink: &mut K) -> Result<(), WriteFault
 /// Writes the counts of the whole history.
 #[tactic(auto, using(plat_io::proofs::LineLemmas::lines))]
 pub(crate) fn write_totals<K: Sink>(items: &[Item], sink: &mut K) -> Result<(), WriteFault>
-    requires { length items.now ≤ 2621440 }
+    requires { length items.now ≤ MOST_ITEMS }
     ensures { AddsLines K.Sink sink.old sink.new result (total_lines items.now) }
 {
     write_changes(items, sink)?;

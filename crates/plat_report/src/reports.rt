@@ -1,4 +1,5 @@
 //! The report of a history with its ends, and the summary of a generated run.
+ghost use Rattle.plat_base.specs.declared.limits.TheConstants.{MOST_ITEMS};
 ghost use Rattle.std.specs.Prelude.{◌≤◌, [], length};
 ghost use Rattle.std.specs.List.{flat_map};
 ghost use Rattle.plat_base.specs.Seen.{machine};
@@ -30,7 +31,7 @@ pub fn report<K: Sink>(
     sink: &mut K,
 ) -> Result<(), WriteFault>
     requires made { IsFlatOf (machine cfg.now) [] tally }
-    requires few { length items.now ≤ 2621440 }
+    requires few { length items.now ≤ MOST_ITEMS }
     requires good { Good (machine cfg.now) (policy_answer (machine cfg.now).policy) items.now ends.now }
     ensures { Adds K.Sink sink.old sink.new result (report (machine cfg.now) items.now ends.now) }
 {
@@ -46,7 +47,7 @@ fn write_report<K: Sink>(
     sink: &mut K,
 ) -> Result<(), WriteFault>
     requires made { IsFlatOf (machine cfg.now) [] tally }
-    requires few { length items.now ≤ 2621440 }
+    requires few { length items.now ≤ MOST_ITEMS }
     requires good { Good (machine cfg.now) (policy_answer (machine cfg.now).policy) items.now ends.now }
     ensures { AddsLines K.Sink sink.old sink.new result (report_lines (machine cfg.now) items.now ends.now) }
 {
@@ -91,7 +92,7 @@ pub fn summary<K: Sink>(
     sink: &mut K,
 ) -> Result<(), WriteFault>
     requires made { IsFlatOf (machine cfg.now) [] _tally }
-    requires few { length items.now ≤ 2621440 }
+    requires few { length items.now ≤ MOST_ITEMS }
     requires good { Good (machine cfg.now) (policy_answer (machine cfg.now).policy) items.now ends.now }
     ensures { Adds K.Sink sink.old sink.new result (summary n (machine cfg.now) items.now ends.now) }
 {
@@ -106,7 +107,7 @@ fn write_summary<K: Sink>(
     n: u32,
     sink: &mut K,
 ) -> Result<(), WriteFault>
-    requires few { length items.now ≤ 2621440 }
+    requires few { length items.now ≤ MOST_ITEMS }
     requires good { Good (machine cfg.now) (policy_answer (machine cfg.now).policy) items.now ends.now }
     ensures { AddsLines K.Sink sink.old sink.new result (summary_lines n (machine cfg.now) items.now ends.now) }
 {

@@ -4,9 +4,9 @@ use Rattle.std.specs.List.{AllByRecursion, slice_split, flat_map, filter}
 use Rattle.std.proofs.lemmas.Bool.{eqb-true}
 use Rattle.std.proofs.lemmas.Bool.Decides.{nat_tests}
 use Rattle.std.proofs.lemmas.List.Splits.{length-slice_split}
-use Rattle.plat_base.specs.Lines.{LineText, is_feed, is_empty, numbered, lines_of, words_of, texts}
+use Rattle.plat_grammar.specs.Lines.{LineText, is_feed, is_empty, numbered, lines_of, words_of, texts}
 use Rattle.plat_base.specs.Text.{line_bytes, text_bytes}
-use Rattle.plat_base.specs.Grammar.{IsClean, line_words, has_words, word_lists}
+use Rattle.plat_grammar.specs.Grammar.{IsClean, line_words, has_words, word_lists}
 use Rattle.plat_text.specs.Sizes.{lines_size}
 use Rattle.plat_text.proofs.SizeLemmas.{words_of-size, parts_size, split-size}
 use Rattle.plat_text.proofs.SectionLaws.{list_size, lists_size, spelled-size}

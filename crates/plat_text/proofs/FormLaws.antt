@@ -5,8 +5,8 @@ use Rattle.std.proofs.lemmas.Bool.{cases_Bool, leb-false, lt-leb}
 use Rattle.std.proofs.lemmas.Bool.Decides.{nat_tests}
 use Rattle.std.proofs.lemmas.List.{length_push}
 use Rattle.std.proofs.lemmas.Slice.Eq.{bytes_eq-Decides}
-use Rattle.plat_base.specs.Lines.{Word, texts}
-use Rattle.plat_base.specs.Forms.{◌>>=◌, Row, word_at, word_from, first_word, refused, read_as, one, nothing, nothing_from, ◌·◌, made, maybe, each, listed, chosen, choice}
+use Rattle.plat_grammar.specs.Lines.{Word, texts}
+use Rattle.plat_grammar.specs.Forms.{◌>>=◌, Row, word_at, word_from, first_word, refused, read_as, one, nothing, nothing_from, ◌·◌, made, maybe, each, listed, chosen, choice}
 use Rattle.plat_base.specs.declared.faults.Refused.{Refused}
 use Rattle.plat_base.specs.declared.faults.Why.{Why}
 use Rattle.plat_base.specs.declared.faults.Why.TheVariants.{TooMany}

@@ -2,8 +2,8 @@
 use Rattle.std.proofs.Common.{◌≡◌, ℕ, suc, zero, ◌+◌, ◌<◌, ◌≤◌, Bool, true, false, cond, eqb, leb, List, [], ◌∷◌, ◌++◌, length, Option, Some, None, Result, Ok, Err, bytes_eq, refl, ap, sym, ◌∙◌, subst, ⊎_elim, arith}
 use Rattle.std.proofs.lemmas.Bool.{cases_Bool}
 use Rattle.std.proofs.lemmas.Bool.Decides.{nat_tests}
-use Rattle.plat_base.specs.Lines.{Word}
-use Rattle.plat_base.specs.Forms.{◌>>=◌, Row, Rest, Stop, word_at, word_from, row_at, row_from, read_as, refused, each, row_length, opened, if_opened, once, repeated, exactly, key, word_ahead}
+use Rattle.plat_grammar.specs.Lines.{Word}
+use Rattle.plat_grammar.specs.Forms.{◌>>=◌, Row, Rest, Stop, word_at, word_from, row_at, row_from, read_as, refused, each, row_length, opened, if_opened, once, repeated, exactly, key, word_ahead}
 use Rattle.plat_text.proofs.Results.{taking, ok_first, ok_second}
 use Rattle.plat_base.specs.declared.faults.Refused.{Refused}
 use Rattle.plat_base.specs.declared.faults.Why.{Why}

@@ -7,7 +7,7 @@ use Rattle.std.proofs.lemmas.Bool.{false≢true}
 use Rattle.std.proofs.lemmas.List.{drop_all, take_rest}
 use Rattle.std.proofs.lemmas.List.Quantifiers.{position-Some}
 use Rattle.std.proofs.lemmas.List.Splits.{slice_split_first, length-slice_split}
-use Rattle.plat_base.specs.Lines.{LineText, Word, is_feed, is_space, is_hash, is_empty, numbered, lines_of, placed, has_bytes, words_at, uncommented}
+use Rattle.plat_grammar.specs.Lines.{LineText, Word, is_feed, is_space, is_hash, is_empty, numbered, lines_of, placed, has_bytes, words_at, uncommented}
 
 -- ---- the place of the first element that passes
 

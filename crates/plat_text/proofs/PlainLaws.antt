@@ -6,10 +6,10 @@ use Rattle.std.specs.Fmt.{decimal}
 use Rattle.std.proofs.lemmas.Bool.{and_parts, and_from, not-true, not_from_false}
 use Rattle.std.proofs.lemmas.Bool.Decides.{nat_tests}
 use Rattle.std.proofs.lemmas.List.Splits.{slice_split-cons_yes, slice_split-cons_no, length-slice_split}
-use Rattle.plat_base.specs.Lines.{LineText, is_feed, is_space, is_hash, is_empty, lines_of, numbered, uncommented, placed, has_bytes, words_at, texts}
+use Rattle.plat_grammar.specs.Lines.{LineText, is_feed, is_space, is_hash, is_empty, lines_of, numbered, uncommented, placed, has_bytes, words_at, texts}
 use Rattle.plat_base.specs.Text.{text_bytes}
 use Rattle.plat_base.specs.Labels.{is_label_byte, is_small_letter, is_label_name}
-use Rattle.plat_base.specs.Grammar.{IsClean, line_words, has_words, word_lists}
+use Rattle.plat_grammar.specs.Grammar.{IsClean, line_words, has_words, word_lists}
 use Rattle.plat_text.proofs.LineLemmas.{numbered-more, lines_of-nil}
 use Rattle.plat_text.proofs.NumberLemmas.{decimal-spelling}
 

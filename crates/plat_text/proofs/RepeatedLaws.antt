@@ -3,9 +3,9 @@ use Rattle.std.proofs.Common.{◌≡◌, ℕ, ◌+◌, Bool, true, false, not, �
 use Rattle.std.specs.List.{AllByRecursion, list_any}
 use Rattle.std.proofs.lemmas.Bool.{cases_Bool, and_parts, and_from, or_parts, not-true, not_from_false}
 use Rattle.std.proofs.lemmas.Slice.Eq.{bytes_eq-Decides}
-use Rattle.plat_base.specs.Lines.{Word, texts}
+use Rattle.plat_grammar.specs.Lines.{Word, texts}
 use Rattle.plat_base.specs.Machine.{all_differ}
-use Rattle.plat_base.specs.Forms.{◌>>=◌, Row, Rest, Stop, word_at, first_word, once, repeated, all_with, refused, row_length}
+use Rattle.plat_grammar.specs.Forms.{◌>>=◌, Row, Rest, Stop, word_at, first_word, once, repeated, all_with, refused, row_length}
 use Rattle.plat_base.specs.declared.faults.Refused.{Refused}
 use Rattle.plat_base.specs.declared.faults.Why.TheVariants.{Duplicate}
 use Rattle.plat_text.proofs.Results.{taking, then_ok, ok_is, ok_first, ok_second, stopped}

@@ -1,6 +1,6 @@
 -- chains of steps that may fail
 use Rattle.std.proofs.Common.{◌≡◌, Bool, true, false, cond, Result, Ok, Err, refl, ap, sym, ◌∙◌, ◌⊎◌, inl, inr}
-use Rattle.plat_base.specs.Forms.{◌>>=◌}
+use Rattle.plat_grammar.specs.Forms.{◌>>=◌}
 
 module _ {A B E : Type 0} where
   pub bind_ok : (r : Result A E) (f : A → Result B E) (y : B) → (r >>= f) ≡ Ok y → (x : A) × (r ≡ Ok x) × (f x ≡ Ok y)

@@ -1,7 +1,7 @@
 -- rows of lines
 use Rattle.std.proofs.Common.{◌≡◌, ℕ, ◌+◌, Bool, true, false, cond, eqb, List, [], ◌∷◌, length, Result, Ok, Err, refl, ap, sym, ◌∙◌}
-use Rattle.plat_base.specs.Lines.{LineText, Word}
-use Rattle.plat_base.specs.Forms.{Row, Rest, rest_of, with_line, row_of}
+use Rattle.plat_grammar.specs.Lines.{LineText, Word}
+use Rattle.plat_grammar.specs.Forms.{Row, Rest, rest_of, with_line, row_of}
 use Rattle.plat_base.specs.declared.faults.Refused.{Refused}
 
 with_line-given : (r : Result Row Refused) (rest : Rest) → (with_line r rest).given ≡ rest.given

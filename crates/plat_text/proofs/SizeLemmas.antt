@@ -3,8 +3,8 @@ use Rattle.std.proofs.Common.{◌≡◌, ℕ, suc, zero, ◌+◌, ◌-◌, ◌<�
 use Rattle.std.specs.List.{slice_split, onto_first, sum_by, filter, before_first, position_or_len, count_by}
 use Rattle.std.proofs.lemmas.Bool.Decides.{nat_tests}
 use Rattle.std.proofs.lemmas.List.Splits.{length-slice_split}
-use Rattle.plat_base.specs.Lines.{LineText, Word, is_feed, is_space, is_hash, is_empty, numbered, lines_of, placed, has_bytes, words_at, words_of, uncommented}
-use Rattle.plat_base.specs.Forms.{Row, row_length, spelled_size}
+use Rattle.plat_grammar.specs.Lines.{LineText, Word, is_feed, is_space, is_hash, is_empty, numbered, lines_of, placed, has_bytes, words_at, words_of, uncommented}
+use Rattle.plat_grammar.specs.Forms.{Row, row_length, spelled_size}
 use Rattle.plat_text.specs.Sizes.{lines_size}
 use Rattle.plat_text.specs.Shown.{row_for}
 use Rattle.plat_text.specs.declared.feeds.Line.{Line}

@@ -3,9 +3,9 @@ use Rattle.std.proofs.Common.{◌≡◌, ℕ, suc, zero, ◌+◌, ◌<◌, ◌�
 use Rattle.std.specs.List.{AllByRecursion, position, position_or_len, filter}
 use Rattle.std.proofs.lemmas.Bool.{cases_Bool, not-true, false≢true, or_parts, or_from, or_cases, ltb-true, ltb-false, le-ltb, lt-ltb}
 use Rattle.std.proofs.lemmas.Bool.Decides.{nat_tests}
-use Rattle.plat_base.specs.Lines.{LineText, Word, uncommented, words_of, texts}
-use Rattle.plat_base.specs.Forms.{◌>>=◌, Row, Rest, Stop, finished, broken, refused, is_bad, row_of, no_bad_byte, with_line, rest_of, word_at, over, over_from}
-use Rattle.plat_base.specs.Grammar.{IsClean, line_words, has_words, word_lists}
+use Rattle.plat_grammar.specs.Lines.{LineText, Word, uncommented, words_of, texts}
+use Rattle.plat_grammar.specs.Forms.{◌>>=◌, Row, Rest, Stop, finished, broken, refused, is_bad, row_of, no_bad_byte, with_line, rest_of, word_at, over, over_from}
+use Rattle.plat_grammar.specs.Grammar.{IsClean, line_words, has_words, word_lists}
 use Rattle.plat_base.specs.declared.faults.Refused.{Refused}
 use Rattle.plat_base.specs.declared.faults.Why.TheVariants.{Unended, BadByte, Extra}
 use Rattle.plat_text.proofs.Results.{taking, then_ok, ok_is}

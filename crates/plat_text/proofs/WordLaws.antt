@@ -3,9 +3,9 @@ use Rattle.std.proofs.Common.{◌≡◌, ℕ, ◌+◌, ◌^◌, ◌<◌, ◌≤�
 use Rattle.std.specs.Fmt.{decimal}
 use Rattle.std.proofs.lemmas.Bool.{and_parts, and_from, ltb-true, leb-true, lt-ltb, le-leb}
 use Rattle.std.proofs.lemmas.Slice.Eq.{bytes_eq-Decides}
-use Rattle.plat_base.specs.Lines.{number_of}
+use Rattle.plat_grammar.specs.Lines.{number_of}
 use Rattle.plat_base.specs.Machine.{is_within}
-use Rattle.plat_base.specs.Forms.{◌>>=◌, exactly, within, number_in, under, number_below}
+use Rattle.plat_grammar.specs.Forms.{◌>>=◌, exactly, within, number_in, under, number_below}
 use Rattle.plat_base.specs.declared.faults.Why.{Why}
 use Rattle.plat_base.specs.declared.faults.Why.TheVariants.{Expected, OutOfRange}
 use Rattle.plat_text.proofs.Results.{taking, then_ok, let_through, ok_is}

@@ -1,7 +1,7 @@
 -- what contracts see of lines, tokens and rows: the lines, words and rows of `plat_base`
 use Rattle.std.specs.Prelude.{ℕ, ◌+◌, List, [], ◌∷◌, length}
-use Rattle.plat_base.specs.Lines.{LineText, Word, words_of}
-use Rattle.plat_base.specs.Forms.{Row, Rest, Stop, finished, broken}
+use Rattle.plat_grammar.specs.Lines.{LineText, Word, words_of}
+use Rattle.plat_grammar.specs.Forms.{Row, Rest, Stop, finished, broken}
 use Rattle.plat_text.specs.declared.feeds.Line.{Line}
 use Rattle.plat_text.specs.declared.tokens.Token.{Token}
 use Rattle.plat_text.specs.declared.ahead.Ahead.{Ahead}

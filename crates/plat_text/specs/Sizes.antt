@@ -1,6 +1,6 @@
 -- how many bytes lines have, each with one more
 use Rattle.std.specs.Prelude.{ℕ, ◌+◌, List, [], ◌∷◌, length}
-use Rattle.plat_base.specs.Lines.{LineText}
+use Rattle.plat_grammar.specs.Lines.{LineText}
 
 abbrev pub lines_size : List LineText → ℕ
 lines_size [] = 0

@@ -1,7 +1,7 @@
 //! The next line of a text that has words.
 ghost use Rattle.std.specs.Prelude.{◌≡◌, ◌+◌, ◌≤◌, ◌<◌, ◌^◌, ◌==◌, ℕ, length, position};
-ghost use Rattle.plat_base.specs.Lines.{words_of, uncommented};
-ghost use Rattle.plat_base.specs.Forms.{Reads, is_bad, row_of, rest_of};
+ghost use Rattle.plat_grammar.specs.Lines.{words_of, uncommented};
+ghost use Rattle.plat_grammar.specs.Forms.{Reads, is_bad, row_of, rest_of};
 ghost use Rattle.plat_text.specs.Shown.{line_text, row_for, with_ahead, ahead_size};
 ghost use Rattle.plat_text.specs.Sizes.{lines_size};
 

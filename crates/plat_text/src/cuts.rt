@@ -1,6 +1,6 @@
 //! Where a text falls into lines, and a line into words.
 ghost use Rattle.std.specs.Prelude.{◌≡◌, ◌<◌, length, position, ◌==◌};
-ghost use Rattle.plat_base.specs.Lines.{lines_of, words_of, uncommented, is_hash};
+ghost use Rattle.plat_grammar.specs.Lines.{lines_of, words_of, uncommented, is_hash};
 
 use crate::feeds::Lines;
 use crate::tokens::Words;

@@ -1,7 +1,7 @@
 //! Iterators over the lines of a text.
 ghost use Rattle.std.specs.Prelude.{◌≡◌, ◌+◌, ◌<◌, ◌^◌, length, position};
 ghost use Rattle.std.specs.Iterator.{YieldsFirstBy, item_count};
-ghost use Rattle.plat_base.specs.Lines.{is_feed};
+ghost use Rattle.plat_grammar.specs.Lines.{is_feed};
 
 use std::marker::Model;
 
@@ -25,7 +25,7 @@ pub struct Lines<'a> {
 
 impl<'a> Model for Lines<'a> {
     ghost use Rattle.std.specs.Prelude.{List, ◌+◌, ◌<◌, ◌^◌, length};
-    ghost use Rattle.plat_base.specs.Lines.{LineText, lines_of};
+    ghost use Rattle.plat_grammar.specs.Lines.{LineText, lines_of};
 
     ghost Value = { List LineText };
 
@@ -41,7 +41,7 @@ fn feed_in(bytes: &[u8]) -> Option<usize>
 }
 
 impl<'a> Lines<'a> {
-    ghost use Rattle.plat_base.specs.Lines.{lines_of};
+    ghost use Rattle.plat_grammar.specs.Lines.{lines_of};
 
     /// The lines of `bytes`, where the first has number `first`.
     pub fn new(first: u32, bytes: &'a [u8]) -> Lines<'a>

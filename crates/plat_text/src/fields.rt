@@ -1,7 +1,7 @@
 //! Lines that have words, read word by word.
 ghost use Rattle.std.specs.Prelude.{◌≡◌, ◌+◌, ◌<◌, ◌^◌, ◌==◌, Ok, length};
-ghost use Rattle.plat_base.specs.Lines.{number_of};
-ghost use Rattle.plat_base.specs.Forms.{Reads, first_word, refused, word_at, read_as, exactly, key, number_in, number_below, any_number, number, below, nothing};
+ghost use Rattle.plat_grammar.specs.Lines.{number_of};
+ghost use Rattle.plat_grammar.specs.Forms.{Reads, first_word, refused, word_at, read_as, exactly, key, number_in, number_below, any_number, number, below, nothing};
 ghost use Rattle.plat_text.specs.Shown.{word, row_for};
 
 use crate::cuts::words;
@@ -21,7 +21,7 @@ pub struct Row<'a> {
 
 impl<'a> Model for Row<'a> {
     ghost use Rattle.std.specs.Prelude.{◌+◌, ◌<◌, ◌^◌};
-    ghost use Rattle.plat_base.specs.Forms.{Row as Seen};
+    ghost use Rattle.plat_grammar.specs.Forms.{Row as Seen};
 
     ghost Value = { Seen };
 

@@ -2,7 +2,7 @@
 ghost use Rattle.std.specs.Prelude.{◌≡◌, ◌+◌, ◌*◌, ◌<◌, ◌^◌, IsTrue, SomeIff};
 ghost use Rattle.std.specs.List.{list_all};
 ghost use Rattle.std.specs.Char.{is_ascii_digit, digit_value};
-ghost use Rattle.plat_base.specs.Lines.{number_of, is_spelling};
+ghost use Rattle.plat_grammar.specs.Lines.{number_of, is_spelling};
 
 use plat_base::Why;
 
@@ -27,7 +27,7 @@ fn with_digit(value: u32, digit: u8) -> Option<u32>
 
 /// The number that a word spells in decimal, `0` or without a leading zero: `NotNumber` for any other word, and `TooLarge`
 /// for a number above 4,294,967,295.
-#[tactic(auto, unfolding(plat_base::specs::Lines::number_of))]
+#[tactic(auto, unfolding(plat_grammar::specs::Lines::number_of))]
 pub fn read_u32(word: &[u8]) -> Result<u32, Why>
     ensures { result ≡ number_of word.now }
 {

@@ -1,8 +1,8 @@
 //! Texts read row by row, a row being a line that has words.
 ghost use Rattle.std.specs.Prelude.{◌≡◌, ◌+◌, ◌<◌, ◌≤◌, ◌^◌, Ok, length};
-ghost use Rattle.plat_base.specs.Forms.{Reads, spelled_size, first_row, word_ahead, row_at, word_at, opened, if_opened, over, row_length, rest_of};
-ghost use Rattle.plat_base.specs.Lines.{words_of};
-ghost use Rattle.plat_base.specs.Forms.{rows_of};
+ghost use Rattle.plat_grammar.specs.Forms.{Reads, spelled_size, first_row, word_ahead, row_at, word_at, opened, if_opened, over, row_length, rest_of};
+ghost use Rattle.plat_grammar.specs.Lines.{words_of};
+ghost use Rattle.plat_grammar.specs.Forms.{rows_of};
 ghost use Rattle.plat_text.specs.Shown.{word};
 
 use crate::ahead::{Ahead, scan};
@@ -24,7 +24,7 @@ pub struct Rows<'a> {
 
 impl<'a> Model for Rows<'a> {
     ghost use Rattle.std.specs.Prelude.{◌+◌, ◌<◌, ◌^◌};
-    ghost use Rattle.plat_base.specs.Forms.{Rest, rest_of};
+    ghost use Rattle.plat_grammar.specs.Forms.{Rest, rest_of};
     ghost use Rattle.plat_text.specs.Shown.{with_ahead, ahead_size};
     ghost use Rattle.plat_text.specs.Sizes.{lines_size};
 

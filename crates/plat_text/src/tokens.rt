@@ -1,7 +1,7 @@
 //! Iterators over the words of a line.
 ghost use Rattle.std.specs.Prelude.{◌≡◌, ◌+◌, ◌<◌, ◌^◌, ◌==◌, length, position, IsTrue, option_map, slice_get, not};
 ghost use Rattle.std.specs.Iterator.{YieldsFirstBy, item_count};
-ghost use Rattle.plat_base.specs.Lines.{is_space};
+ghost use Rattle.plat_grammar.specs.Lines.{is_space};
 
 use std::marker::Model;
 
@@ -21,7 +21,7 @@ pub struct Words<'a> {
 
 impl<'a> Model for Words<'a> {
     ghost use Rattle.std.specs.Prelude.{List, ◌+◌, ◌<◌, ◌^◌, length};
-    ghost use Rattle.plat_base.specs.Lines.{Word, words_at};
+    ghost use Rattle.plat_grammar.specs.Lines.{Word, words_at};
 
     ghost Value = { List Word };
 
@@ -43,7 +43,7 @@ fn word_in(bytes: &[u8]) -> Option<usize>
 }
 
 impl<'a> Words<'a> {
-    ghost use Rattle.plat_base.specs.Lines.{words_at};
+    ghost use Rattle.plat_grammar.specs.Lines.{words_at};
     ghost use Rattle.plat_text.specs.Shown.{word};
 
     /// The words of bytes that stand in a line from `column` on.

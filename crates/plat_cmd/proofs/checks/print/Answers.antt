@@ -1,11 +1,8 @@
 use Rattle.std.proofs.Common.{◌∙◌}
 use Rattle.plat_base.specs.Canon.{canon_text}
-use Rattle.plat_base.specs.FirstFault.{text_at}
-use Rattle.plat_base.specs.Grammar.{IsTextOf}
 use Rattle.plat_base.specs.Seen.{machine}
 use Rattle.plat_base.specs.declared.statuses.Status.TheVariants as status
-use Rattle.std.specs.Prelude.{◌≡◌, Ok}
-use Rattle.plat_cmd.proofs.PerformLemmas.{written_by, ended_by, when_done}
+use Rattle.plat_cmd.proofs.EndingLemmas.{written_by, ended_by}
 use Rattle.plat_cmd.proofs.checks.print.Goals as goal
 
 -- src/checks.rt:12:1
@@ -18,7 +15,7 @@ returns g c =
           written_by g.K.Sink c.args.sink.now c.print_machine-written.new.sink c.print_machine-written.result (canon_text m) status.Done c.without_run.result.status
           (λ is. cc) now_is c.print_machine-written.ensures.written;
       ended = ended_by c.print_machine-written.result status.Done c.without_run.result.status now_is;
-      text = when_done (IsTextOf (canon_text m) m) c.print_machine-written.result c.without_run.result.status now_is c.print_machine-written.ensures.text;
-      read_again = when_done (text_at (canon_text m) ≡ Ok m) c.print_machine-written.result c.without_run.result.status now_is c.print_machine-written.ensures.read_again;
+      text = c.print_machine-written.ensures.text;
+      read_again = c.print_machine-written.ensures.read_again;
       history = c.without_run.ensures.kept;
     }

@@ -1,35 +1,86 @@
-use Rattle.plat_cmd.proofs.PerformLemmas.{performs_complete, performs_ends, performs_silent, performs_nothing_kept}
-use Rattle.std.proofs.Common.{sym, subst, ◌∙◌}
-use Rattle.std.specs.Prelude.{IfOk, IsTrue, Result}
-use Rattle.plat_cmd.specs.Promise.{EndsWell, IfTextOf, IsDoneWithMemory, IsQuiet, may_end}
+use Rattle.std.proofs.Common.{Ok, ap, refl, ◌∙◌, ⊎_elim}
+use Rattle.std.specs.Prelude.{Result, Err, IfOk, IfErr, ◌≡◌, ◌⊎◌}
+use Rattle.plat_cmd.specs.Arguments.{texts_of}
+use Rattle.plat_cmd.specs.Commands.{read_of}
+use Rattle.plat_cmd.specs.Promises.{Promises}
 use Rattle.plat_cmd.specs.declared.words.Command.{Command}
-use Rattle.plat_cmd.specs.declared.words.WordsFault.{WordsFault}
+use Rattle.plat_cmd.specs.declared.words.Command.TheVariants as command
+use Rattle.plat_cmd.proofs.PromiseLemmas.{named_by, not_bad, never_bad_words, printed_or_not, summed_or_not, wanting}
 use Rattle.plat_cmd.proofs.commands.platinum.Goals as goal
 
--- src/commands.rt:58:1
-pub returns-in-Ok-clause-complete : goal.returns-in-Ok-clause-complete
-returns-in-Ok-clause-complete g c =
-    subst (λ (r : Result Command WordsFault). IfOk r (λ command. IfTextOf (g.S.Source.left c.args.source.now) (λ m. EndsWell command m → IsQuiet (g.S.Source.faults c.args.source.now) (g.S.Source.faults c.perform.new.source) → IsQuiet (g.K.Sink.faults c.args.sink.now) (g.K.Sink.faults c.perform.new.sink) → IsDoneWithMemory c.perform.result.status)))
-    (sym c.in-Ok.is ∙ c.read_words.ensures)
-    (performs_complete c.in-Ok.command g.S.Source g.K.Sink c.args.source.now c.perform.new.source c.args.sink.now c.perform.new.sink
-    c.perform.result.status c.perform.result.kept.items c.perform.ensures)
+pub returns-in-Ok-Check-clause-named : goal.returns-in-Ok-Check-clause-named
+returns-in-Ok-Check-clause-named g c =
+    named_by c.read_words.result (read_of (texts_of c.args.words.now)) command.Check
+    (c.in-Ok-Check.is ∙ ap (λ (d : Command). Ok d) c.in-Ok-Check.field-0-is)
+    (λ d. Promises d g.S.Source g.K.Sink c.args.source.now c.check.new.source c.args.sink.now c.check.new.sink c.check.result)
+    c.read_words.ensures.command c.read_words.ensures.bad_words c.check.ensures
 
--- src/commands.rt:58:1
-pub returns-in-Ok-clause-ends : goal.returns-in-Ok-clause-ends
-returns-in-Ok-clause-ends g c =
-    subst (λ (r : Result Command WordsFault). IfOk r (λ command. IsTrue (may_end command c.perform.result.status)))
-    (sym c.in-Ok.is ∙ c.read_words.ensures)
-    (performs_ends c.in-Ok.command g.S.Source g.K.Sink c.args.source.now c.perform.new.source c.args.sink.now c.perform.new.sink
-    c.perform.result.status c.perform.result.kept.items c.perform.ensures)
+pub returns-in-Ok-Check-clause-bad_words : goal.returns-in-Ok-Check-clause-bad_words
+returns-in-Ok-Check-clause-bad_words g c =
+    not_bad c.read_words.result (read_of (texts_of c.args.words.now)) command.Check
+    (c.in-Ok-Check.is ∙ ap (λ (d : Command). Ok d) c.in-Ok-Check.field-0-is) _
+    c.read_words.ensures.command c.read_words.ensures.bad_words
 
--- src/commands.rt:58:1
-pub returns-in-Ok-clause-silent : goal.returns-in-Ok-clause-silent
-returns-in-Ok-clause-silent g c =
-    performs_silent c.in-Ok.command g.S.Source g.K.Sink c.args.source.now c.perform.new.source c.args.sink.now c.perform.new.sink
-    c.perform.result.status c.perform.result.kept.items c.perform.ensures
+pub returns-in-Ok-Check-clause-unread : goal.returns-in-Ok-Check-clause-unread
+returns-in-Ok-Check-clause-unread g c = λ bad. absurd (never_bad_words c.check.ensures bad)
 
--- src/commands.rt:58:1
-pub returns-in-Ok-clause-nothing_kept : goal.returns-in-Ok-clause-nothing_kept
-returns-in-Ok-clause-nothing_kept g c =
-    performs_nothing_kept c.in-Ok.command g.S.Source g.K.Sink c.args.source.now c.perform.new.source c.args.sink.now c.perform.new.sink
-    c.perform.result.status c.perform.result.kept.items c.perform.ensures
+pub returns-in-Ok-Sim-clause-named : goal.returns-in-Ok-Sim-clause-named
+returns-in-Ok-Sim-clause-named g c =
+    named_by c.read_words.result (read_of (texts_of c.args.words.now)) (command.Sim c.in-Ok-Sim.grain c.in-Ok-Sim.output)
+    (c.in-Ok-Sim.is ∙ ap (λ (d : Command). Ok d) c.in-Ok-Sim.field-0-is)
+    (λ d. Promises d g.S.Source g.K.Sink c.args.source.now c.sim.new.source c.args.sink.now c.sim.new.sink c.sim.result)
+    c.read_words.ensures.command c.read_words.ensures.bad_words c.sim.ensures
+
+pub returns-in-Ok-Sim-clause-bad_words : goal.returns-in-Ok-Sim-clause-bad_words
+returns-in-Ok-Sim-clause-bad_words g c =
+    not_bad c.read_words.result (read_of (texts_of c.args.words.now)) (command.Sim c.in-Ok-Sim.grain c.in-Ok-Sim.output)
+    (c.in-Ok-Sim.is ∙ ap (λ (d : Command). Ok d) c.in-Ok-Sim.field-0-is) _
+    c.read_words.ensures.command c.read_words.ensures.bad_words
+
+pub returns-in-Ok-Sim-clause-unread : goal.returns-in-Ok-Sim-clause-unread
+returns-in-Ok-Sim-clause-unread g c = λ bad. absurd (never_bad_words c.sim.ensures bad)
+
+pub returns-in-Ok-Gen-clause-named : goal.returns-in-Ok-Gen-clause-named
+returns-in-Ok-Gen-clause-named g c =
+    named_by c.read_words.result (read_of (texts_of c.args.words.now)) (command.Gen c.in-Ok-Gen.n)
+    (c.in-Ok-Gen.is ∙ ap (λ (d : Command). Ok d) c.in-Ok-Gen.field-0-is)
+    (λ d. Promises d g.S.Source g.K.Sink c.args.source.now c.args.source.now c.args.sink.now c.print_nth.new.sink c.print_nth.result)
+    c.read_words.ensures.command c.read_words.ensures.bad_words
+    (printed_or_not g.S.Source g.K.Sink c.args.source.now c.args.sink.now c.print_nth.new.sink c.print_nth.result c.in-Ok-Gen.n c.print_nth.ensures)
+
+pub returns-in-Ok-Gen-clause-bad_words : goal.returns-in-Ok-Gen-clause-bad_words
+returns-in-Ok-Gen-clause-bad_words g c =
+    not_bad c.read_words.result (read_of (texts_of c.args.words.now)) (command.Gen c.in-Ok-Gen.n)
+    (c.in-Ok-Gen.is ∙ ap (λ (d : Command). Ok d) c.in-Ok-Gen.field-0-is) _
+    c.read_words.ensures.command c.read_words.ensures.bad_words
+
+pub returns-in-Ok-Big-clause-named : goal.returns-in-Ok-Big-clause-named
+returns-in-Ok-Big-clause-named g c =
+    named_by c.read_words.result (read_of (texts_of c.args.words.now)) (command.Big c.in-Ok-Big.n)
+    (c.in-Ok-Big.is ∙ ap (λ (d : Command). Ok d) c.in-Ok-Big.field-0-is)
+    (λ d. Promises d g.S.Source g.K.Sink c.args.source.now c.args.source.now c.args.sink.now c.sum_nth.new.sink c.sum_nth.result)
+    c.read_words.ensures.command c.read_words.ensures.bad_words
+    (summed_or_not g.S.Source g.K.Sink c.args.source.now c.args.sink.now c.sum_nth.new.sink c.sum_nth.result c.in-Ok-Big.n c.sum_nth.ensures)
+
+pub returns-in-Ok-Big-clause-bad_words : goal.returns-in-Ok-Big-clause-bad_words
+returns-in-Ok-Big-clause-bad_words g c =
+    not_bad c.read_words.result (read_of (texts_of c.args.words.now)) (command.Big c.in-Ok-Big.n)
+    (c.in-Ok-Big.is ∙ ap (λ (d : Command). Ok d) c.in-Ok-Big.field-0-is) _
+    c.read_words.ensures.command c.read_words.ensures.bad_words
+
+pub returns-in-Ok-Replay-clause-named : goal.returns-in-Ok-Replay-clause-named
+returns-in-Ok-Replay-clause-named g c =
+    named_by c.read_words.result (read_of (texts_of c.args.words.now)) command.Replay
+    (c.in-Ok-Replay.is ∙ ap (λ (d : Command). Ok d) c.in-Ok-Replay.field-0-is)
+    (λ d. Promises d g.S.Source g.K.Sink c.args.source.now c.replay.new.source c.args.sink.now c.replay.new.sink c.replay.result)
+    c.read_words.ensures.command c.read_words.ensures.bad_words
+    c.replay.ensures
+
+pub returns-in-Ok-Replay-clause-bad_words : goal.returns-in-Ok-Replay-clause-bad_words
+returns-in-Ok-Replay-clause-bad_words g c =
+    not_bad c.read_words.result (read_of (texts_of c.args.words.now)) command.Replay
+    (c.in-Ok-Replay.is ∙ ap (λ (d : Command). Ok d) c.in-Ok-Replay.field-0-is) _
+    c.read_words.ensures.command c.read_words.ensures.bad_words
+
+pub returns-in-Ok-Replay-clause-unread : goal.returns-in-Ok-Replay-clause-unread
+returns-in-Ok-Replay-clause-unread g c = λ bad. absurd (never_bad_words c.replay.ensures bad)

@@ -1,27 +1,63 @@
-use Rattle.plat_cmd.proofs.PerformLemmas.{performs_complete, performs_ends, performs_silent, performs_nothing_kept}
+use Rattle.std.proofs.Common.{◌≡◌, inr, refl, sym, subst, ◌∙◌, ⊎_elim}
+use Rattle.plat_base.specs.Seen.{machine}
+use Rattle.plat_cmd.specs.Inputs.{machine_text}
+use Rattle.plat_cmd.specs.Promises.{IsNoRefusal, Promises}
+use Rattle.plat_cmd.specs.Steps.{stop_status}
+use Rattle.plat_cmd.specs.declared.words.Command.{Command}
 use Rattle.plat_cmd.specs.declared.words.Command.TheVariants as command
+use Rattle.plat_cmd.specs.declared.words.Grain.{Grain}
+use Rattle.plat_cmd.specs.declared.words.Output.{Output}
+use Rattle.plat_cmd.specs.declared.words.Grain.TheVariants as grain
+use Rattle.plat_cmd.specs.declared.words.Output.TheVariants as output
+use Rattle.plat_cmd.specs.declared.outcomes.Stop.TheVariants as stop
+use Rattle.plat_cmd.proofs.PromiseLemmas.{did, stopped, told_all, told_as, only_it, stop_is, not_refused}
 use Rattle.plat_cmd.proofs.commands.sim.Goals as goal
 
--- src/commands.rt:36:1
-pub returns-clause-complete : goal.returns-clause-complete
-returns-clause-complete g c =
-    performs_complete (command.Sim c.args.grain c.args.output) g.S.Source g.K.Sink c.args.source.now c.perform.new.source c.args.sink.now c.perform.new.sink
-    c.perform.result.status c.perform.result.kept.items c.perform.ensures
+-- the one grain, and the output of this arm
+of_grain : (gr : Grain) (o p : Output) → o ≡ p → (P : Command → Type 0) → P (command.Sim grain.Coarse p) → P (command.Sim gr o)
+of_grain grain.Coarse o p same P holds = subst (λ (x : Output). P (command.Sim grain.Coarse x)) (sym same) holds
 
--- src/commands.rt:36:1
-pub returns-clause-ends : goal.returns-clause-ends
-returns-clause-ends g c =
-    performs_ends (command.Sim c.args.grain c.args.output) g.S.Source g.K.Sink c.args.source.now c.perform.new.source c.args.sink.now c.perform.new.sink
-    c.perform.result.status c.perform.result.kept.items c.perform.ensures
+pub returns-in-Coarse-Report : goal.returns-in-Coarse-Report
+returns-in-Coarse-Report g c =
+    let sim = command.Sim grain.Coarse output.Report in
+    let told = g.S.Source.left c.args.source.now in
+    let left = g.S.Source.left c.read_machine.new.source in
+    let read = c.read_machine.result in
+    let m = machine c.in-Ok.cfg in
+    let out = c.simulate.result in
+    of_grain c.args.grain c.args.output output.Report c.in-Coarse-Report.is-1
+    (λ d. Promises d g.S.Source g.K.Sink c.args.source.now c.read_machine.new.source c.args.sink.now c.simulate.new.sink out)
+    (⊎_elim
+    (λ run. did sim g.S.Source g.K.Sink c.args.source.now c.read_machine.new.source c.args.sink.now c.simulate.new.sink out m
+    (told_as told left read c.in-Ok.cfg c.in-Ok.is c.read_machine.ensures.found c.read_machine.ensures.exact c.read_machine.ensures.all) run
+    (only_it machine_text told read machine c.read_machine.ensures.only c.in-Ok.cfg c.in-Ok.is) c.read_machine.ensures.count)
+    (λ has. stopped sim g.S.Source g.K.Sink c.args.source.now c.read_machine.new.source c.args.sink.now c.simulate.new.sink out stop.OutOfMemory tt tt has
+    (told_all machine_text told (λ it. IsNoRefusal (stop_status stop.OutOfMemory)) (λ it. inr refl)) c.read_machine.ensures.count) c.simulate.ensures)
 
--- src/commands.rt:36:1
-pub returns-clause-silent : goal.returns-clause-silent
-returns-clause-silent g c =
-    performs_silent (command.Sim c.args.grain c.args.output) g.S.Source g.K.Sink c.args.source.now c.perform.new.source c.args.sink.now c.perform.new.sink
-    c.perform.result.status c.perform.result.kept.items c.perform.ensures
+pub returns-in-Coarse-Trace : goal.returns-in-Coarse-Trace
+returns-in-Coarse-Trace g c =
+    let sim = command.Sim grain.Coarse output.Trace in
+    let told = g.S.Source.left c.args.source.now in
+    let left = g.S.Source.left c.read_machine.new.source in
+    let read = c.read_machine.result in
+    let m = machine c.in-Ok.cfg in
+    let out = c.trace.result in
+    of_grain c.args.grain c.args.output output.Trace c.in-Coarse-Trace.is-1
+    (λ d. Promises d g.S.Source g.K.Sink c.args.source.now c.read_machine.new.source c.args.sink.now c.trace.new.sink out)
+    (⊎_elim
+    (λ run. did sim g.S.Source g.K.Sink c.args.source.now c.read_machine.new.source c.args.sink.now c.trace.new.sink out m
+    (told_as told left read c.in-Ok.cfg c.in-Ok.is c.read_machine.ensures.found c.read_machine.ensures.exact c.read_machine.ensures.all) run
+    (only_it machine_text told read machine c.read_machine.ensures.only c.in-Ok.cfg c.in-Ok.is) c.read_machine.ensures.count)
+    (λ has. stopped sim g.S.Source g.K.Sink c.args.source.now c.read_machine.new.source c.args.sink.now c.trace.new.sink out stop.OutOfMemory tt tt has
+    (told_all machine_text told (λ it. IsNoRefusal (stop_status stop.OutOfMemory)) (λ it. inr refl)) c.read_machine.ensures.count) c.trace.ensures)
 
--- src/commands.rt:36:1
-pub returns-clause-nothing_kept : goal.returns-clause-nothing_kept
-returns-clause-nothing_kept g c =
-    performs_nothing_kept (command.Sim c.args.grain c.args.output) g.S.Source g.K.Sink c.args.source.now c.perform.new.source c.args.sink.now c.perform.new.sink
-    c.perform.result.status c.perform.result.kept.items c.perform.ensures
+pub returns-in-Err : goal.returns-in-Err
+returns-in-Err g c =
+    let told = g.S.Source.left c.args.source.now in
+    let left = g.S.Source.left c.read_machine.new.source in
+    let read = c.read_machine.result in
+    stopped (command.Sim c.args.grain c.args.output) g.S.Source g.K.Sink c.args.source.now c.read_machine.new.source c.args.sink.now c.args.sink.now c.without_run.result
+    c.in-Err.stop
+    (stop_is machine_text told read (g.S.Source.faults c.args.source.now) (g.S.Source.faults c.read_machine.new.source) c.in-Err.stop c.in-Err.is c.read_machine.ensures.stopped)
+    tt (record { ended = c.without_run.ensures.status ∙ c.stop_status.ensures; history = c.without_run.ensures.kept; sink = refl })
+    (not_refused machine_text told read machine c.read_machine.ensures.only c.in-Err.stop c.in-Err.is) c.read_machine.ensures.count

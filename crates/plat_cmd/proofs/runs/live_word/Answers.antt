@@ -1,5 +1,5 @@
 use Rattle.std.proofs.Common.{◌≡◌, ◌≢◌, ◌<◌, arith, below_more, sym, subst, ◌∙◌}
-use Rattle.plat_base.specs.Coarse.{is_live}
+use Rattle.plat_base.specs.Ends.{is_live}
 use Rattle.plat_base.specs.Machine.{Machine}
 use Rattle.plat_base.specs.Schedule.{live_processors}
 use Rattle.plat_base.specs.Seen.{machine}

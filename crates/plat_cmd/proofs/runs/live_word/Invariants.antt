@@ -1,5 +1,5 @@
 use Rattle.std.proofs.Common.{◌≡◌, ◌<◌, ◌≤◌, ℕ, false}
-use Rattle.plat_base.specs.Coarse.{is_live}
+use Rattle.plat_base.specs.Ends.{is_live}
 use Rattle.plat_sched.specs.Actors.{is_set}
 use Rattle.plat_cmd.proofs.runs.live_word.Given as goal
 

@@ -1,5 +1,5 @@
 use Rattle.std.proofs.Common.{sym, ◌∙◌}
-use Rattle.plat_laws.proofs.RunLaws.{choose-live}
+use Rattle.plat_coarse_laws.proofs.RunLaws.{choose-live}
 use Rattle.plat_cmd.proofs.RunLemmas.{chosen_is, turned_is}
 use Rattle.plat_cmd.proofs.runs.next_turn.Goals as goal
 

@@ -1,7 +1,7 @@
 use Rattle.std.proofs.Common.{◌≡◌, ◌<◌, ap, true, arith, refl, ◌∙◌}
 use Rattle.plat_base.specs.Machine.{Machine}
 use Rattle.plat_base.specs.Seen.{machine}
-use Rattle.plat_base.specs.Coarse.{is_pass}
+use Rattle.plat_base.specs.Turns.{is_pass}
 use Rattle.plat_coarse.proofs.DaemonLemmas.{IsThawed-dir, IsThawed-length, IsThawed-more, pass_of}
 use Rattle.plat_coarse.proofs.acts.daemon.Goals as goal
 

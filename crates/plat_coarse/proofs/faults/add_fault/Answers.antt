@@ -1,8 +1,8 @@
 use Rattle.std.proofs.Common.{◌∙◌, ◌++◌, ◌∷◌, []}
-use Rattle.plat_base.specs.Coarse.{interrupts}
+use Rattle.plat_base.specs.Messages.{interrupts}
 use Rattle.plat_base.specs.declared.items.Item.TheVariants as item
 use Rattle.plat_laws.proofs.ItemLaws.{flat_value-change, flat_writes-change, flat_value-applied, flat_writes-applied}
-use Rattle.plat_laws.proofs.MessageLaws.{interrupts-applied}
+use Rattle.plat_coarse_laws.proofs.MessageLaws.{interrupts-applied}
 use Rattle.plat_coarse.specs.Reached.{reach_seen}
 use Rattle.plat_coarse.specs.Running.{state_of}
 use Rattle.plat_coarse.proofs.FaultLemmas.{legal-still}

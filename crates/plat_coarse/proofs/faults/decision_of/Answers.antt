@@ -1,7 +1,7 @@
 use Rattle.std.proofs.Common.{◌≡◌, subst, sym, false}
 use Rattle.std.specs.Prelude.{IsTrue}
 use Rattle.plat_base.specs.Machine.{Machine}
-use Rattle.plat_base.specs.Coarse.{is_starved}
+use Rattle.plat_base.specs.Frames.{is_starved}
 use Rattle.plat_base.specs.Decide.{decide, fits_cause}
 use Rattle.plat_base.specs.Verdicts.{policy_answer}
 use Rattle.plat_coarse.proofs.FaultLemmas.{starved-got, fits-fed, decided-fed}

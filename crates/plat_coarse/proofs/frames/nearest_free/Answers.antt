@@ -1,5 +1,5 @@
 use Rattle.std.proofs.Common.{arith}
-use Rattle.plat_base.specs.Coarse.{free_frame}
+use Rattle.plat_base.specs.Frames.{free_frame}
 use Rattle.plat_coarse.proofs.FrameLemmas.{nearest_in_numbers-more}
 use Rattle.plat_coarse.proofs.frames.nearest_free.Goals as goal
 use Rattle.plat_coarse.proofs.frames.nearest_free.Goals.{in-Some, in_default}

@@ -1,6 +1,6 @@
 use Rattle.std.proofs.Common.{◌≡◌}
 use Rattle.std.specs.List.{filter_map}
-use Rattle.plat_base.specs.Coarse.{free_frame, nearest_in}
+use Rattle.plat_base.specs.Frames.{free_frame, nearest_in}
 use Rattle.plat_base.specs.Pages.{numbers}
 use Rattle.plat_coarse.proofs.frames.nearest_free.Given as goal
 

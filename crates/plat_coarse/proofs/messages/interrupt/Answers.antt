@@ -1,7 +1,8 @@
 use Rattle.std.proofs.Common.{◌≡◌, ◌≢◌, ◌<◌, length, sym, ◌∙◌, arith}
 use Rattle.plat_base.specs.Pages.{page_of}
 use Rattle.plat_coarse.specs.Running.{state_of, interrupts_for}
-use Rattle.plat_coarse.proofs.MessageLemmas.{HasSent, HasRoom, HasRoom-page, HasSent-page, HasSent-other_page, sent_before, interrupts-sent}
+use Rattle.plat_chronicle.specs.Chronicle.{HasAdded, HasRoom}
+use Rattle.plat_coarse.proofs.MessageLemmas.{HasRoom-page, HasAdded-page, HasAdded-other_page, sent_before, interrupts-sent}
 use Rattle.plat_coarse.proofs.messages.interrupt.Goals as goal
 use Rattle.plat_coarse.proofs.messages.interrupt.Goals.{then-page_of_entry-page, else-page_of_entry-page}
 
@@ -14,9 +15,9 @@ interrupt_entry-requires c =
     let is : page_of before.machine entry ≡ args.page = grind (arith, c.if-page_of_entry-page.true, c.page_of_entry.ensures.page, c.config-in-loop-entry.ensures, c.loop-entry.invariant.machine) in
     let within : entry < length before.machine.entries = grind (arith, c.loop-entry-test.true, c.entry_count-entry-end.ensures, c.config.ensures) in
     let all = interrupts-sent before.machine before.items args.ends.now args.initiator args.page args.removed (sym c.removes_some.ensures ∙ c.if-not-removes_some.false) in
-    let room : HasRoom before (sent_before before.machine before.items args.ends.now args.initiator args.page args.removed (length before.machine.entries)) = record { spare = rw all at c.requires.spare; few = rw all at c.requires.few } in
+    let room : HasRoom before (sent_before before.machine before.items args.ends.now args.initiator args.page args.removed (length before.machine.entries)) = rw all at c.requires.room in
     let here = HasRoom-page before c.loop-entry.chronicle args.ends.now args.initiator args.page args.removed entry c.loop-entry.invariant is within room in
-    record { entry = grind (arith, within, c.loop-entry.invariant.machine); spare = here.spare; few = here.few }
+    record { entry = grind (arith, within, c.loop-entry.invariant.machine); room = here }
 
 pub loop-entry-preserved : goal.loop-entry-preserved
 loop-entry-preserved c =
@@ -27,10 +28,9 @@ loop-entry-preserved c =
     elim c.if-page_of_entry-page.branch [
       | then-page_of_entry-page w ↦
           let is : page_of before.machine entry ≡ args.page = grind (arith, w.if-page_of_entry-page.true, c.page_of_entry.ensures.page, c.config-in-loop-entry.ensures, c.loop-entry.invariant.machine) in
-          let added = w.interrupt_entry.ensures in
-          let sent : HasSent now c.if-page_of_entry-page.chronicle (interrupts_for now.machine (state_of now args.ends.now) args.initiator args.removed entry) = rw w.chronicle-is (record { machine = added.machine; items = added.items; spare = added.spare }) in
-          HasSent-page before now args.ends.now args.initiator args.page args.removed entry c.loop-entry.invariant c.if-page_of_entry-page.chronicle is sent
+          let sent : HasAdded now c.if-page_of_entry-page.chronicle (interrupts_for now.machine (state_of now args.ends.now) args.initiator args.removed entry) = rw w.chronicle-is (w.interrupt_entry.ensures) in
+          HasAdded-page before now args.ends.now args.initiator args.page args.removed entry c.loop-entry.invariant c.if-page_of_entry-page.chronicle is sent
       | else-page_of_entry-page w ↦
           let is : page_of before.machine entry ≢ args.page = grind (arith, w.if-page_of_entry-page.false, c.page_of_entry.ensures.page, c.config-in-loop-entry.ensures, c.loop-entry.invariant.machine) in
-          rw w.chronicle-is (HasSent-other_page before now args.ends.now args.initiator args.page args.removed entry c.loop-entry.invariant is)
+          rw w.chronicle-is (HasAdded-other_page before now args.ends.now args.initiator args.page args.removed entry c.loop-entry.invariant is)
     ]

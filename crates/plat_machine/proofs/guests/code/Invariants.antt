@@ -1,5 +1,5 @@
 use Rattle.std.proofs.Common.{◌≡◌, [], drop}
-use Rattle.plat_base.specs.Drafts.{code_from}
+use Rattle.plat_grammar.specs.Drafts.{code_from}
 use Rattle.plat_machine.specs.Shown.{drafts}
 use Rattle.plat_machine.proofs.guests.code.Given as goal
 

@@ -1,6 +1,6 @@
 use Rattle.std.proofs.Common.{◌≡◌, ◌-◌, []}
 use Rattle.plat_base.specs.Machine.{programs_seen}
-use Rattle.plat_base.specs.FirstFault.{guests_from}
+use Rattle.plat_grammar.specs.FirstFault.{guests_from}
 use Rattle.plat_machine.proofs.guests.guests.Given as goal
 
 -- what is left reads on as the whole does

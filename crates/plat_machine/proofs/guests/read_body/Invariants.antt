@@ -1,5 +1,5 @@
 use Rattle.std.proofs.Common.{◌≡◌, length}
-use Rattle.plat_base.specs.FirstFault.{body_from, body_at}
+use Rattle.plat_grammar.specs.FirstFault.{body_from, body_at}
 use Rattle.plat_machine.specs.Shown.{drafts}
 use Rattle.plat_machine.proofs.guests.read_body.Given as goal
 

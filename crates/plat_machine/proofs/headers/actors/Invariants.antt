@@ -1,5 +1,5 @@
 use Rattle.std.proofs.Common.{◌≡◌, [], length}
-use Rattle.plat_base.specs.Forms.{each, number_in}
+use Rattle.plat_grammar.specs.Forms.{each, number_in}
 use Rattle.plat_machine.proofs.headers.actors.Given as goal
 
 -- what is left reads on as the whole list does

@@ -1,7 +1,7 @@
 use Rattle.std.proofs.Common.{◌≡◌, codes, length}
 use Rattle.plat_base.specs.Machine.{same_word}
-use Rattle.plat_base.specs.Forms.{repeated, all_with}
-use Rattle.plat_base.specs.FirstFault.{init_line}
+use Rattle.plat_grammar.specs.Forms.{repeated, all_with}
+use Rattle.plat_grammar.specs.FirstFault.{init_line}
 use Rattle.plat_machine.proofs.lists.inits.Given as goal
 
 -- what is left reads on as the whole does

@@ -1,7 +1,7 @@
 use Rattle.plat_machine.proofs.PrintLines.{adds_more}
 use Rattle.plat_machine.proofs.printing.write_machine.Goals as goal
 
-pub returns-clause-lines : goal.returns-clause-lines
-returns-clause-lines g c =
+pub returns : goal.returns
+returns g c =
     rw (← c.as_slice.ensures, ← c.as_slice-2.ensures, ← c.as_slice-3.ensures, ← c.as_slice-4.ensures)
-    (adds_more g.K.Sink _ _ _ _ _ _ _ c.in_ok-write_head.ensures c.write_body.ensures.lines)
+    (adds_more g.K.Sink _ _ _ _ _ _ _ c.in_ok-write_head.ensures c.write_body.ensures)

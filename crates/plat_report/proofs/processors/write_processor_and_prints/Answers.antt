@@ -1,7 +1,7 @@
 use Rattle.std.proofs.Common.{◌∷◌, [], map, arith}
 use Rattle.std.proofs.lemmas.List.{get_or_default}
 use Rattle.plat_base.specs.Seen.{machine}
-use Rattle.plat_base.specs.Coarse.{cut_at}
+use Rattle.plat_base.specs.Ends.{cut_at}
 use Rattle.plat_base.specs.Report.{processor_line, print_line, printed}
 use Rattle.plat_report.proofs.WritingLemmas.{adds_more}
 use Rattle.plat_report.proofs.processors.write_processor_and_prints.Goals as goal

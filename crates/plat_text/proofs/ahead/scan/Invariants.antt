@@ -1,5 +1,5 @@
 use Rattle.std.proofs.Common.{◌≡◌, ◌≤◌, ℕ}
-use Rattle.plat_base.specs.Forms.{rest_of}
+use Rattle.plat_grammar.specs.Forms.{rest_of}
 use Rattle.plat_text.specs.Sizes.{lines_size}
 use Rattle.plat_text.proofs.ahead.scan.Given as goal
 

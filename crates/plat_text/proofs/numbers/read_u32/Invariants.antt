@@ -2,7 +2,7 @@ use Rattle.std.proofs.Common.{◌≡◌, ◌<◌, ◌^◌, true, drop}
 use Rattle.std.specs.List.{list_all}
 use Rattle.std.specs.Char.{is_ascii_digit}
 use Rattle.std.specs.Str.Parse.{digits_value, digits_value_after}
-use Rattle.plat_base.specs.Lines.{is_spelling}
+use Rattle.plat_grammar.specs.Lines.{is_spelling}
 use Rattle.plat_text.proofs.numbers.read_u32.Given as goal
 
 -- the digits that are left go on from the value so far

@@ -1,6 +1,6 @@
 use Rattle.std.proofs.Common.{◌≡◌, ◌+◌}
-use Rattle.plat_base.specs.Lines.{words_of}
-use Rattle.plat_base.specs.Forms.{spelled_size}
+use Rattle.plat_grammar.specs.Lines.{words_of}
+use Rattle.plat_grammar.specs.Forms.{spelled_size}
 use Rattle.plat_text.proofs.readers.spelled_len.Given as goal
 
 abbrev pub invariant-loop-found : goal.invariant-loop-found

@@ -2,7 +2,7 @@ use Rattle.std.proofs.Common.{ap, sym, subst, ◌∙◌, List}
 use Rattle.plat_base.specs.Rules.{Good}
 use Rattle.plat_base.specs.Verdicts.{policy_answer}
 use Rattle.plat_base.specs.declared.items.Item.{Item}
-use Rattle.plat_laws.proofs.TurnLaws.{good_of_sound}
+use Rattle.plat_coarse_laws.proofs.TurnLaws.{good_of_sound}
 use Rattle.plat_coarse.specs.CoarseSeen.{CoarseSeen}
 use Rattle.plat_coarse.specs.Running.{state_of}
 use Rattle.plat_coarse.proofs.turns.Coarse.history.Goals as goal

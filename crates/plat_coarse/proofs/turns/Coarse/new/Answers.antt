@@ -2,7 +2,7 @@ use Rattle.std.proofs.Common.{◌≡◌, ℕ, ◌<◌, length, ap, ◌∙◌, su
 use Rattle.std.specs.Prelude.{slice_index_or, replicate}
 use Rattle.std.proofs.lemmas.List.{length-replicate}
 use Rattle.plat_base.specs.Seen.{machine}
-use Rattle.plat_base.specs.Coarse.{cut_at}
+use Rattle.plat_base.specs.Ends.{cut_at}
 use Rattle.plat_guest.specs.GuestSeen.{new_guest}
 use Rattle.plat_coarse.specs.Advanced.{no_guest}
 use Rattle.plat_coarse.proofs.StartLemmas.{RunsOn-start, start_is}

@@ -1,5 +1,5 @@
 use Rattle.std.proofs.Common.{◌∙◌, ap}
-use Rattle.plat_base.specs.Forms.{rest_of}
+use Rattle.plat_grammar.specs.Forms.{rest_of}
 use Rattle.plat_text.proofs.RowLemmas.{rest_of_none_given}
 use Rattle.plat_text.proofs.readers.Rows.new.Goals as goal
 

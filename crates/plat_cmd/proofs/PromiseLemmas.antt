@@ -1,0 +1,416 @@
+-- what a command promises follows from what it did, or from why it stopped
+use Rattle.std.proofs.Common.{◌≡◌, ◌⊎◌, inl, inr, ℕ, ◌≤◌, true, false, Bool, List, [], refl, sym, ap, subst, ◌∙◌, ⊎_elim, arith}
+use Rattle.std.specs.Prelude.{Option, None, Some, IfSome, IsSomeAnd, IfOk, IfErr, OnOk, Result, Ok, Err}
+use Rattle.plat_base.specs.Seen.{machine}
+use Rattle.plat_base.specs.Verdicts.{policy_answer}
+use Rattle.plat_base.specs.Statuses.{status_of, ends_as, is_silent, refusal_of}
+use Rattle.plat_base.specs.declared.endings.End.TheVariants as end
+use Rattle.plat_base.specs.Machine.{Machine}
+use Rattle.plat_base.specs.declared.configs.Config.{Config}
+use Rattle.plat_base.specs.declared.items.Item.{Item}
+use Rattle.plat_base.specs.declared.statuses.Bad.{Bad}
+use Rattle.plat_base.specs.declared.statuses.Status.{Status}
+use Rattle.plat_base.specs.declared.statuses.Status.TheVariants as status
+use Rattle.plat_grammar.specs.FirstFault.{text_at}
+use Rattle.plat_grammar.specs.Grammar.{IsMachine, IsTextOf}
+use Rattle.plat_grammar.specs.HistoryFaults.{history_at}
+use Rattle.plat_grammar.specs.HistoryGrammar.{IsHistory, IsHistoryTextOf}
+use Rattle.plat_history.specs.Shown.{seen}
+use Rattle.plat_history.specs.declared.histories.History.{History}
+use Rattle.plat_io.specs.Streams.{HasRisen, IsAtEnd}
+use Rattle.plat_io.specs.declared.sinks.Sink.{Ghosts}
+use Rattle.plat_io.specs.declared.sources.Source.{Ghosts as Reader}
+use Rattle.plat_gen.specs.Generated.{generated}
+use Rattle.plat_cmd.specs.Inputs.{Input, machine_text, history_text, nothing, input_of, reads_some, Told, IsToldAs, IsToldHistory, IsRead, HasRead, IfTold, IsFault}
+use Rattle.plat_cmd.specs.Works.{HasPrinted, HasRun, HasSummed, HasDone, bad_of, IsFirstBad, IsComplete, ends_of, is_run, is_judge, may_end}
+use Rattle.plat_cmd.specs.Promises.{IsNoRefusal, IsQuiet, IsEnded, Promises}
+use Rattle.plat_cmd.specs.Steps.{IsStop, StopsAs, AcceptsAs, read_as, HasStopped, stop_status}
+use Rattle.plat_cmd.specs.declared.words.Command.{Command}
+use Rattle.plat_cmd.specs.declared.words.Command.TheVariants as command
+use Rattle.plat_cmd.specs.declared.words.WordsFault.{WordsFault}
+use Rattle.plat_cmd.specs.declared.words.WordsFault.TheVariants as words
+use Rattle.plat_cmd.specs.declared.words.Grain.{Grain}
+use Rattle.plat_cmd.specs.declared.words.Grain.TheVariants as grain
+use Rattle.plat_cmd.specs.declared.words.Output.{Output}
+use Rattle.plat_cmd.specs.declared.words.Output.TheVariants as output
+use Rattle.plat_cmd.specs.declared.outcomes.Outcome.{Outcome}
+use Rattle.plat_cmd.specs.declared.outcomes.Stop.{Stop}
+use Rattle.plat_cmd.specs.declared.outcomes.Stop.TheVariants as stop
+use Rattle.plat_cmd.proofs.EndingLemmas.{is_run_status, run_status, silent_run, told_no_refusal, told_no_bad, finished_status, done_status}
+
+-- ---- a command that did its work
+
+may_run : (c : Command) → is_run c ≡ true → (s : Status) → is_run_status s ≡ true → may_end c s ≡ true
+may_run c runs status.Done h = refl
+may_run c runs (status.HistoryBad bad) h = absurd cc
+may_run c runs (status.Refused refused) h = absurd cc
+may_run c runs status.NoFrames h = runs
+may_run c runs status.Spent h = runs
+may_run c runs status.EventLimit h = absurd cc
+may_run c runs status.ReadFault h = absurd cc
+may_run c runs status.WriteFault h = refl
+may_run c runs status.OutOfMemory h = refl
+may_run c runs status.BadWords h = absurd cc
+
+module _ {K : Type 0} (sink : Ghosts K) (old new : K) (now : Status) (kept : List Item) where
+  done_is_told : (c : Command) (it : Told (input_of c)) → HasDone c sink it old new now kept → is_silent now ≡ false
+  done_is_told command.Check m done = ⊎_elim (λ is. ap is_silent is) (λ is. ap is_silent is) done.ended
+  done_is_told (command.Sim grain.Coarse o) m done =
+      ⊎_elim (λ is. ap is_silent is ∙ silent_run (status_of (ends_of m) false) (run_status (ends_of m))) (λ is. ap is_silent is) done.ended
+  done_is_told (command.Gen n) it done = ⊎_elim (λ is. ap is_silent is) (λ is. ap is_silent is) done.ended
+  done_is_told (command.Big n) it done = ⊎_elim (λ is. ap is_silent is) (λ is. ap is_silent is) done.ended
+  done_is_told command.Replay h done =
+      ⊎_elim (λ is. ap is_silent is ∙ silent_run (status_of h.ends false) (run_status h.ends)) (λ is. ap is_silent is) done.ended
+
+  done_may_end : (c : Command) (it : Told (input_of c)) → HasDone c sink it old new now kept → may_end c now ≡ true
+  done_may_end command.Check m done = ⊎_elim (λ is. ap (may_end command.Check) is) (λ is. ap (may_end command.Check) is) done.ended
+  done_may_end (command.Sim grain.Coarse o) m done =
+      ⊎_elim (λ is. ap (may_end (command.Sim grain.Coarse o)) is ∙ may_run (command.Sim grain.Coarse o) refl (status_of (ends_of m) false) (run_status (ends_of m)))
+      (λ is. ap (may_end (command.Sim grain.Coarse o)) is) done.ended
+  done_may_end (command.Gen n) it done = ⊎_elim (λ is. ap (may_end (command.Gen n)) is) (λ is. ap (may_end (command.Gen n)) is) done.ended
+  done_may_end (command.Big n) it done = ⊎_elim (λ is. ap (may_end (command.Big n)) is) (λ is. ap (may_end (command.Big n)) is) done.ended
+  done_may_end command.Replay h done =
+      ⊎_elim (λ is. ap (may_end command.Replay) is ∙ may_run command.Replay refl (status_of h.ends false) (run_status h.ends)) (λ is. ap (may_end command.Replay) is) done.ended
+
+  done_has_written : (c : Command) (it : Told (input_of c)) → HasDone c sink it old new now kept → now ≡ status.WriteFault → HasRisen (sink.faults old) (sink.faults new)
+  done_has_written command.Check m done = done.written.risen
+  done_has_written (command.Sim grain.Coarse o) m done = done.written.risen
+  done_has_written (command.Gen n) it done = done.written.risen
+  done_has_written (command.Big n) it done = done.written.risen
+  done_has_written command.Replay h done = done.written.risen
+
+  pub done_complete : (c : Command) (it : Told (input_of c)) → HasDone c sink it old new now kept → IsQuiet (sink.faults old) (sink.faults new) → IsComplete c it now kept
+  done_complete command.Check m done quiet = ⊎_elim (λ is. inl is) (λ fault. absurd (quiet (done.written.risen fault))) done.ended
+  done_complete (command.Sim grain.Coarse o) m done quiet = λ guests.
+      ⊎_elim (λ is. finished_status m (policy_answer m.policy) kept (ends_of m) done.coherent guests now is) (λ fault. absurd (quiet (done.written.risen fault))) done.ended
+  done_complete (command.Gen n) it done quiet = ⊎_elim (λ is. inl is) (λ fault. absurd (quiet (done.written.risen fault))) done.ended
+  done_complete (command.Big n) it done quiet = ⊎_elim (λ is. inl is) (λ fault. absurd (quiet (done.written.risen fault))) done.ended
+  done_complete command.Replay h done quiet = λ whole.
+      ⊎_elim (λ is. inl (is ∙ done_status (ends_as end.NoFrames h.ends) (ends_as end.Spent h.ends) whole.framed whole.unspent))
+      (λ fault. absurd (quiet (done.written.risen fault))) done.ended
+
+-- ---- a command that found a bad history
+
+found_judges : (c : Command) (it : Told (input_of c)) (bad : Bad) → IsFirstBad c it bad → is_judge c ≡ true
+found_judges command.Check m bad first = absurd first
+found_judges (command.Sim g o) m bad first = absurd first
+found_judges (command.Gen n) it bad first = absurd first
+found_judges (command.Big n) it bad first = absurd first
+found_judges command.Replay h bad first = refl
+
+-- a history that is bad is not one of a run that is done
+found_complete : (c : Command) (it : Told (input_of c)) (bad : Bad) (now : Status) (kept : List Item) → IsFirstBad c it bad → IsComplete c it now kept
+found_complete command.Check m bad now kept first = absurd first
+found_complete (command.Sim g o) m bad now kept first = absurd first
+found_complete (command.Gen n) it bad now kept first = absurd first
+found_complete (command.Big n) it bad now kept first = absurd first
+found_complete command.Replay h bad now kept first = λ whole. absurd (by (sym first ∙ whole.good))
+  where
+    by : Some bad ≡ None → ⊥
+    by is = cc
+
+bad_is_no_write_fault : (bad : Bad) → status.HistoryBad bad ≡ status.WriteFault → ⊥
+bad_is_no_write_fault bad is = cc
+
+bad_is_no_read_fault : (bad : Bad) → status.HistoryBad bad ≡ status.ReadFault → ⊥
+bad_is_no_read_fault bad is = cc
+
+-- ---- a command that stopped
+
+stop_is_silent : (s : Stop) → is_silent (stop_status s) ≡ true
+stop_is_silent (stop.Refused r) = refl
+stop_is_silent stop.ReadFault = refl
+stop_is_silent stop.OutOfMemory = refl
+
+stop_may_end : {S : Type 0} (c : Command) (before after : S) (s : Stop) → StopsAs (input_of c) before after s → may_end c (stop_status s) ≡ true
+stop_may_end command.Check before after (stop.Refused r) may = refl
+stop_may_end command.Check before after stop.ReadFault may = refl
+stop_may_end command.Check before after stop.OutOfMemory may = refl
+stop_may_end (command.Sim g o) before after (stop.Refused r) may = refl
+stop_may_end (command.Sim g o) before after stop.ReadFault may = refl
+stop_may_end (command.Sim g o) before after stop.OutOfMemory may = refl
+stop_may_end command.Replay before after (stop.Refused r) may = refl
+stop_may_end command.Replay before after stop.ReadFault may = refl
+stop_may_end command.Replay before after stop.OutOfMemory may = refl
+stop_may_end (command.Gen n) before after (stop.Refused r) may = absurd may
+stop_may_end (command.Gen n) before after stop.ReadFault may = absurd may
+stop_may_end (command.Gen n) before after stop.OutOfMemory may = refl
+stop_may_end (command.Big n) before after (stop.Refused r) may = absurd may
+stop_may_end (command.Big n) before after stop.ReadFault may = absurd may
+stop_may_end (command.Big n) before after stop.OutOfMemory may = refl
+
+-- the source of a command that reads nothing
+stop_unread : {S : Type 0} (i : Input) (before after : S) (s : Stop) → StopsAs i before after s → reads_some i ≡ false → after ≡ before
+stop_unread machine_text before after s may none = absurd cc
+stop_unread history_text before after s may none = absurd cc
+stop_unread nothing before after (stop.Refused r) may none = absurd may
+stop_unread nothing before after stop.ReadFault may none = absurd may
+stop_unread nothing before after stop.OutOfMemory may none = may
+
+read_unread : {S : Type 0} (i : Input) (source : Reader S) (before after : S) (it : Told i) → IsRead i source before after it → reads_some i ≡ false → after ≡ before
+read_unread machine_text source before after it read none = absurd cc
+read_unread history_text source before after it read none = absurd cc
+read_unread nothing source before after it read none = read
+
+stop_refusal : (i : Input) (told : Option (List ℕ)) (before after : ℕ) (s : Stop) → IsStop i told before after s
+    → IfSome (refusal_of (stop_status s)) (λ refused. IfSome told (λ bytes. IsFault i bytes refused))
+stop_refusal i told before after (stop.Refused r) is = is
+stop_refusal i told before after stop.ReadFault is = tt
+stop_refusal i told before after stop.OutOfMemory is = tt
+
+stop_read_fault : (i : Input) (told : Option (List ℕ)) (before after : ℕ) (s : Stop) → IsStop i told before after s → stop_status s ≡ status.ReadFault → HasRisen before after
+stop_read_fault i told before after (stop.Refused r) is fault = absurd cc
+stop_read_fault i told before after stop.ReadFault is fault = is
+stop_read_fault i told before after stop.OutOfMemory is fault = absurd cc
+
+stop_no_bad : (s : Stop) (P : Bad → Type 0) → IfSome (bad_of (stop_status s)) P
+stop_no_bad (stop.Refused r) P = tt
+stop_no_bad stop.ReadFault P = tt
+stop_no_bad stop.OutOfMemory P = tt
+
+stop_write_fault : (s : Stop) → stop_status s ≡ status.WriteFault → ⊥
+stop_write_fault (stop.Refused r) fault = cc
+stop_write_fault stop.ReadFault fault = cc
+stop_write_fault stop.OutOfMemory fault = cc
+
+-- want of memory is free
+want_complete : (c : Command) (it : Told (input_of c)) (now : Status) (kept : List Item) → now ≡ status.OutOfMemory → IsComplete c it now kept
+want_complete command.Check m now kept want = inr want
+want_complete (command.Sim g o) m now kept want = λ guests. inl (inr want)
+want_complete (command.Gen n) it now kept want = inr want
+want_complete (command.Big n) it now kept want = inr want
+want_complete command.Replay h now kept want = λ whole. inr want
+
+-- ---- both
+
+true_or_false : (b : Bool) → b ≡ true → b ≡ false → ⊥
+true_or_false true h k = absurd cc
+true_or_false false h k = absurd cc
+
+told_more : (i : Input) (told : Option (List ℕ)) (P Q : Told i → Type 0) → ((it : Told i) → P it → Q it) → IfTold i told P → IfTold i told Q
+told_more machine_text None P Q h holds = tt
+told_more machine_text (Some bytes) P Q h holds = λ m within text. h m (holds m within text)
+told_more history_text None P Q h holds = tt
+told_more history_text (Some bytes) P Q h holds = λ it within text. h it (holds it within text)
+told_more nothing told P Q h holds = h (tt {0}) holds
+
+pub told_all : (i : Input) (told : Option (List ℕ)) (P : Told i → Type 0) → ((it : Told i) → P it) → IfTold i told P
+told_all machine_text None P h = tt
+told_all machine_text (Some bytes) P h = λ m within text. h m
+told_all history_text None P h = tt
+told_all history_text (Some bytes) P h = λ it within text. h it
+told_all nothing told P h = h (tt {0})
+
+-- how a command ended, whatever its source
+
+module _ {K : Type 0} (c : Command) (sink : Ghosts K) (old new : K) (out : Outcome) where
+  pub did_end : (it : Told (input_of c)) → HasDone c sink it old new out.status out.kept.items → IsEnded c sink old new out
+  did_end it works =
+      let told = done_is_told sink old new out.status out.kept.items c it works in
+      record {
+        ends = done_may_end sink old new out.status out.kept.items c it works;
+        write_fault = done_has_written sink old new out.status out.kept.items c it works;
+        silent = λ silent. absurd (true_or_false (is_silent out.status) silent told);
+        nothing_kept = λ silent. absurd (true_or_false (is_silent out.status) silent told);
+      }
+
+  pub stopped_end : (s : Stop) → may_end c (stop_status s) ≡ true → HasStopped s old new out → IsEnded c sink old new out
+  stopped_end s may has = record {
+    ends = ap (may_end c) has.ended ∙ may;
+    write_fault = λ fault. absurd (stop_write_fault s (sym has.ended ∙ fault));
+    silent = λ h. has.sink;
+    nothing_kept = λ h. has.history;
+  }
+
+  pub stopped_silent : (s : Stop) → HasStopped s old new out → is_silent out.status ≡ false → ⊥
+  stopped_silent s has told = true_or_false (is_silent out.status) (ap is_silent has.ended ∙ stop_is_silent s) told
+
+module _ {S K : Type 0} (c : Command) (source : Reader S) (sink : Ghosts K) (before after : S) (old new : K) (out : Outcome) where
+  abbrev Works : Told (input_of c) → Type 0
+  Works it = HasDone c sink it old new out.status out.kept.items
+
+  -- what is accepted of what was read
+  abbrev Accepted : Told (input_of c) → Type 0
+  Accepted it = Works it ⊎ IsSomeAnd (bad_of out.status) (IsFirstBad c it) ⊎ IsNoRefusal out.status
+
+  abbrev Comes : Told (input_of c) → Type 0
+  Comes it = IsQuiet (source.faults before) (source.faults after) → IsQuiet (sink.faults old) (sink.faults new) → IsComplete c it out.status out.kept.items
+
+  -- a command that did its work with what it read, which is all that the source can tell
+  pub did :
+      (it : Told (input_of c)) → IsRead (input_of c) source before after it → Works it
+      → IfTold (input_of c) (source.left before) (λ other. it ≡ other) → source.faults before ≤ source.faults after
+      → Promises c source sink before after old new out
+  did it read works only count =
+      let told = done_is_told sink old new out.status out.kept.items c it works in
+      record {
+        done = λ not_silent. (it, read, works);
+        bad = told_no_bad out.status (λ bad. HasRead (input_of c) source before after (λ other. IsFirstBad c other bad)) told;
+        accepted = told_more (input_of c) (source.left before) (λ other. it ≡ other) Accepted (λ other same. inl (subst Works same works)) only;
+        complete = told_more (input_of c) (source.left before) (λ other. it ≡ other) Comes
+            (λ other same read_quiet quiet. done_complete sink old new out.status out.kept.items c other (subst Works same works) quiet) only;
+        ended = did_end c sink old new out it works;
+        refused = told_no_refusal out.status (λ refused. IfSome (source.left before) (λ bytes. IsFault (input_of c) bytes refused)) told;
+        read_fault = λ fault. absurd (true_or_false (is_silent out.status) (ap is_silent fault) told);
+        unread = read_unread (input_of c) source before after it read;
+        count = count;
+      }
+
+  -- a command that found what it read bad, which is all that the source can tell
+  pub found :
+      (it : Told (input_of c)) (bad : Bad) → IsRead (input_of c) source before after it → IsFirstBad c it bad
+      → out.status ≡ status.HistoryBad bad → out.kept.items ≡ [] → new ≡ old
+      → IfTold (input_of c) (source.left before) (λ other. it ≡ other) → source.faults before ≤ source.faults after
+      → Promises c source sink before after old new out
+  found it bad read first ends kept written only count = record {
+    done = λ told. absurd (true_or_false (is_silent out.status) (ap is_silent ends) told);
+    bad = subst (λ (now : Status). IfSome (bad_of now) (λ bad. HasRead (input_of c) source before after (λ it. IsFirstBad c it bad))) (sym ends)
+        (it, read, first);
+    accepted = told_more (input_of c) (source.left before) (λ other. it ≡ other) Accepted (λ other same. inr (inl (is_bad other same))) only;
+    complete = told_more (input_of c) (source.left before) (λ other. it ≡ other) Comes
+        (λ other same quiet wrote. found_complete c other bad out.status out.kept.items (subst (λ it. IsFirstBad c it bad) same first)) only;
+    ended = record {
+      ends = ap (may_end c) ends ∙ found_judges c it bad first;
+      write_fault = λ fault. absurd (bad_is_no_write_fault bad (sym ends ∙ fault));
+      silent = λ h. written;
+      nothing_kept = λ h. kept;
+    };
+    refused = subst (λ (now : Status). IfSome (refusal_of now) (λ refused. IfSome (source.left before) (λ bytes. IsFault (input_of c) bytes refused))) (sym ends) tt;
+    read_fault = λ fault. absurd (bad_is_no_read_fault bad (sym ends ∙ fault));
+    unread = read_unread (input_of c) source before after it read;
+    count = count;
+  }
+    where
+      is_bad : (other : Told (input_of c)) → it ≡ other → IsSomeAnd (bad_of out.status) (IsFirstBad c other)
+      is_bad other same =
+          subst (λ (now : Status). IsSomeAnd (bad_of now) (IsFirstBad c other)) (sym ends) (subst (λ it. IsFirstBad c it bad) same first)
+
+  -- a command that stopped, and not because of its text if that is one
+  pub stopped :
+      (s : Stop) → IsStop (input_of c) (source.left before) (source.faults before) (source.faults after) s → StopsAs (input_of c) before after s → HasStopped s old new out
+      → IfTold (input_of c) (source.left before) (λ other. IsNoRefusal (stop_status s)) → source.faults before ≤ source.faults after
+      → Promises c source sink before after old new out
+  stopped s is may has free count =
+      let silent : is_silent out.status ≡ true = ap is_silent has.ended ∙ stop_is_silent s in
+      let why = subst IsNoRefusal (sym has.ended) in
+      record {
+        done = λ told. absurd (true_or_false (is_silent out.status) silent told);
+        bad = subst (λ (now : Status). IfSome (bad_of now) (λ bad. HasRead (input_of c) source before after (λ it. IsFirstBad c it bad))) (sym has.ended)
+            (stop_no_bad s (λ bad. HasRead (input_of c) source before after (λ it. IsFirstBad c it bad)));
+        accepted = told_more (input_of c) (source.left before) (λ other. IsNoRefusal (stop_status s)) Accepted (λ other no_refusal. inr (inr (why no_refusal))) free;
+        complete = told_more (input_of c) (source.left before) (λ other. IsNoRefusal (stop_status s)) Comes (λ other no_refusal. comes other (why no_refusal)) free;
+        ended = stopped_end c sink old new out s (stop_may_end c before after s may) has;
+        refused = subst (λ (now : Status). IfSome (refusal_of now) (λ refused. IfSome (source.left before) (λ bytes. IsFault (input_of c) bytes refused))) (sym has.ended)
+            (stop_refusal (input_of c) (source.left before) (source.faults before) (source.faults after) s is);
+        read_fault = λ fault. stop_read_fault (input_of c) (source.left before) (source.faults before) (source.faults after) s is (sym has.ended ∙ fault);
+        unread = stop_unread (input_of c) before after s may;
+        count = count;
+      }
+    where
+      comes : (other : Told (input_of c)) → IsNoRefusal out.status → Comes other
+      comes other (inl fault) = λ quiet wrote. absurd (quiet (stop_read_fault (input_of c) (source.left before) (source.faults before) (source.faults after) s is (sym has.ended ∙ fault)))
+      comes other (inr want) = λ quiet wrote. want_complete c other out.status out.kept.items want
+
+-- ---- reading nothing
+
+stops_for_want : {S : Type 0} (i : Input) (x : S) → StopsAs i x x stop.OutOfMemory
+stops_for_want machine_text x = tt
+stops_for_want history_text x = tt
+stops_for_want nothing x = refl
+
+module _ {S K : Type 0} (source : Reader S) (sink : Ghosts K) (x : S) (old new : K) (out : Outcome) where
+  -- a command for which there was no memory before it read
+  pub wanting : (c : Command) → HasStopped stop.OutOfMemory old new out → Promises c source sink x x old new out
+  wanting c has =
+      stopped c source sink x x old new out stop.OutOfMemory tt (stops_for_want (input_of c) x) has
+      (told_all (input_of c) (source.left x) (λ it. IsNoRefusal (stop_status stop.OutOfMemory)) (λ it. inr refl)) (omega arith)
+
+  -- commands on generated machines
+  pub printed_or_not :
+      (n : ℕ) → HasPrinted sink (generated n) old new out.status out.kept.items ⊎ HasStopped stop.OutOfMemory old new out
+      → Promises (command.Gen n) source sink x x old new out
+  printed_or_not n =
+      ⊎_elim (λ done. did (command.Gen n) source sink x x old new out tt refl done refl (omega arith)) (wanting (command.Gen n))
+
+  pub summed_or_not :
+      (n : ℕ) → HasSummed n sink (generated n) old new out.status out.kept.items ⊎ HasStopped stop.OutOfMemory old new out
+      → Promises (command.Big n) source sink x x old new out
+  summed_or_not n =
+      ⊎_elim (λ done. did (command.Big n) source sink x x old new out tt refl done refl (omega arith)) (wanting (command.Big n))
+
+-- ---- reading a text
+
+module _ (told left : Option (List ℕ)) (result : Result Config Stop) where
+  pub told_as :
+      (cfg : Config) → result ≡ Ok cfg → IfOk result (λ cfg. IfSome told (λ bytes. IsTextOf bytes (machine cfg)))
+      → IfOk result (λ cfg. IfSome told (λ bytes. text_at bytes ≡ Ok (machine cfg))) → OnOk result (IsAtEnd left)
+      → IsToldAs told left (machine cfg)
+  told_as cfg is found exact all = record {
+    machine = cfg.limits;
+    short = cfg.short;
+    text = subst (λ (r : Result Config Stop). IfOk r (λ cfg. IfSome told (λ bytes. IsTextOf bytes (machine cfg)))) is found;
+    read = subst (λ (r : Result Config Stop). IfOk r (λ cfg. IfSome told (λ bytes. text_at bytes ≡ Ok (machine cfg)))) is exact;
+    all = subst (λ (r : Result Config Stop). OnOk r (IsAtEnd left)) is all;
+  }
+
+module _ (told left : Option (List ℕ)) (result : Result History Stop) where
+  pub told_history :
+      (h : History) → result ≡ Ok h → IfOk result (λ h. IsHistory (seen h)) → IfOk result (λ h. IfSome told (λ bytes. IsHistoryTextOf bytes (seen h)))
+      → IfOk result (λ h. IfSome told (λ bytes. history_at bytes ≡ Ok (seen h))) → OnOk result (IsAtEnd left)
+      → IsToldHistory told left (seen h)
+  told_history h is ranges found exact all = record {
+    ranges = subst (λ (r : Result History Stop). IfOk r (λ h. IsHistory (seen h))) is ranges;
+    text = subst (λ (r : Result History Stop). IfOk r (λ h. IfSome told (λ bytes. IsHistoryTextOf bytes (seen h)))) is found;
+    read = subst (λ (r : Result History Stop). IfOk r (λ h. IfSome told (λ bytes. history_at bytes ≡ Ok (seen h)))) is exact;
+    all = subst (λ (r : Result History Stop). OnOk r (IsAtEnd left)) is all;
+  }
+
+module _ {X : Type 0} (i : Input) (told : Option (List ℕ)) (result : Result X Stop) where
+  pub stop_is : (before after : ℕ) (s : Stop) → result ≡ Err s → IfErr result (IsStop i told before after) → IsStop i told before after s
+  stop_is before after s is why = subst (λ (r : Result X Stop). IfErr r (IsStop i told before after)) is why
+
+  module _ (view : X → Told i) (only : IfTold i told (λ it. AcceptsAs it (read_as view result))) where
+    pub only_it : (x : X) → result ≡ Ok x → IfTold i told (λ it. view x ≡ it)
+    only_it x is =
+        told_more i told (λ it. AcceptsAs it (read_as view result)) (λ it. view x ≡ it)
+        (λ it h. subst (λ (r : Result X Stop). AcceptsAs it (read_as view r)) is h) only
+
+    pub not_refused : (s : Stop) → result ≡ Err s → IfTold i told (λ it. IsNoRefusal (stop_status s))
+    not_refused s is =
+        told_more i told (λ it. AcceptsAs it (read_as view result)) (λ it. IsNoRefusal (stop_status s))
+        (λ it h. by it s (subst (λ (r : Result X Stop). AcceptsAs it (read_as view r)) is h)) only
+      where
+        by : (it : Told i) (s : Stop) → AcceptsAs it (Err s) → IsNoRefusal (stop_status s)
+        by it (stop.Refused r) h = absurd h
+        by it stop.ReadFault h = inl refl
+        by it stop.OutOfMemory h = inr refl
+
+-- ---- words
+
+-- a command that was read of the words is the one that they name
+module _ (read named : Result Command WordsFault) (c : Command) (is : read ≡ Ok c) where
+  it_is :
+      IfOk named (λ d. (read ≡ Ok d) ⊎ (read ≡ Err words.OutOfMemory)) → IfErr named (λ f. read ≡ Err words.BadWords) → named ≡ Ok c
+  it_is = by named
+    where
+      by :
+          (r : Result Command WordsFault) → IfOk r (λ d. (read ≡ Ok d) ⊎ (read ≡ Err words.OutOfMemory))
+          → IfErr r (λ f. read ≡ Err words.BadWords) → r ≡ Ok c
+      by (Ok d) (inl same) bad = sym same ∙ is
+      by (Ok d) (inr want) bad = absurd cc
+      by (Err f) good bad = absurd cc
+
+  pub named_by :
+      (P : Command → Type 0) → IfOk named (λ d. (read ≡ Ok d) ⊎ (read ≡ Err words.OutOfMemory))
+      → IfErr named (λ f. read ≡ Err words.BadWords) → P c → IfOk named P
+  named_by P good bad h = subst (λ (r : Result Command WordsFault). IfOk r P) (sym (it_is good bad)) h
+
+  pub not_bad :
+      (P : WordsFault → Type 0) → IfOk named (λ d. (read ≡ Ok d) ⊎ (read ≡ Err words.OutOfMemory))
+      → IfErr named (λ f. read ≡ Err words.BadWords) → IfErr named P
+  not_bad P good bad = subst (λ (r : Result Command WordsFault). IfErr r P) (sym (it_is good bad)) tt
+
+-- no command ends as bad words
+pub never_bad_words : {S K : Type 0} {c : Command} {source : Reader S} {sink : Ghosts K} {before after : S} {old new : K} {out : Outcome}
+    → Promises c source sink before after old new out → out.status ≡ status.BadWords → ⊥
+never_bad_words {c = c} {out = out} p bad = true_or_false (may_end c out.status) p.ended.ends (ap (may_end c) bad)

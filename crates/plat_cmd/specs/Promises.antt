@@ -1,0 +1,67 @@
+-- what a call of a command promises
+use Rattle.std.specs.Prelude.{◌≡◌, ◌⊎◌, ℕ, ◌≤◌, true, false, [], IfSome, IsSomeAnd, IsTrue}
+use Rattle.plat_base.specs.Statuses.{is_silent, refusal_of}
+use Rattle.plat_base.specs.declared.statuses.Status.{Status}
+use Rattle.plat_base.specs.declared.statuses.Status.TheVariants as status
+use Rattle.plat_io.specs.Streams.{HasRisen}
+use Rattle.plat_io.specs.declared.sinks.Sink.{Ghosts}
+use Rattle.plat_io.specs.declared.sources.Source.{Ghosts as Reader}
+use Rattle.plat_cmd.specs.Inputs.{input_of, reads_some, HasRead, IfTold, IsFault}
+use Rattle.plat_cmd.specs.Works.{HasDone, bad_of, IsFirstBad, IsComplete, may_end}
+use Rattle.plat_cmd.specs.declared.words.Command.{Command}
+use Rattle.plat_cmd.specs.declared.outcomes.Outcome.{Outcome}
+
+-- a command stopped because of memory or its source, not because of the text
+abbrev pub IsNoRefusal : Status → Type 0
+IsNoRefusal now = (now ≡ status.ReadFault) ⊎ (now ≡ status.OutOfMemory)
+
+-- a count of faults stayed as it was
+abbrev pub IsQuiet : ℕ → ℕ → Type 0
+IsQuiet before after = HasRisen before after → ⊥
+
+-- what is promised of the outcome and of the sink, whatever was read
+pub record IsEnded {K : Type 0} (c : Command) (sink : Ghosts K) (old new : K) (out : Outcome) : Type 0 where
+  -- the status is one that the command can end with
+  pub ends : IsTrue (may_end c out.status)
+  -- WriteFault comes only where the sink's count of faults has risen
+  pub write_fault : out.status ≡ status.WriteFault → HasRisen (sink.faults old) (sink.faults new)
+  -- with the statuses that write nothing the sink is as it was, and no history is kept
+  pub silent : is_silent out.status ≡ true → new ≡ old
+  pub nothing_kept : is_silent out.status ≡ true → out.kept.items ≡ []
+
+-- what a call of command c promises
+pub record Promises {S K : Type 0} (c : Command) (source : Reader S) (sink : Ghosts K) (before after : S) (old new : K) (out : Outcome) : Type 0 where
+  -- with a status that lets it write, the command read its input, and did its work with what it read
+  pub done :
+      is_silent out.status ≡ false
+      → HasRead (input_of c) source before after (λ it. HasDone c sink it old new out.status out.kept.items)
+  -- a history that is bad was read, and this is its first bad item
+  pub bad : IfSome (bad_of out.status) (λ bad. HasRead (input_of c) source before after (λ it. IsFirstBad c it bad))
+  -- with whatever the source tells it did its work or found what is bad, or the source failed or memory ran out: no text is
+  -- refused
+  pub accepted :
+      IfTold (input_of c) (source.left before)
+      (λ it. HasDone c sink it old new out.status out.kept.items ⊎ IsSomeAnd (bad_of out.status) (IsFirstBad c it)
+      ⊎ IsNoRefusal out.status)
+  -- where no count of faults rises, it comes to its end with that
+  pub complete :
+      IfTold (input_of c) (source.left before)
+      (λ it. IsQuiet (source.faults before) (source.faults after) → IsQuiet (sink.faults old) (sink.faults new)
+      → IsComplete c it out.status out.kept.items)
+  pub ended : IsEnded c sink old new out
+  -- a refusal is the first fault of the bytes that the source told
+  pub refused :
+      IfSome (refusal_of out.status) (λ refused. IfSome (source.left before) (λ bytes. IsFault (input_of c) bytes refused))
+  -- ReadFault comes only where the source's count of faults has risen
+  pub read_fault : out.status ≡ status.ReadFault → HasRisen (source.faults before) (source.faults after)
+  -- a command that reads nothing leaves its source as it was
+  pub unread : reads_some (input_of c) ≡ false → after ≡ before
+  -- the source's count of faults never falls
+  pub count : source.faults before ≤ source.faults after
+
+-- words that name no command: nothing was read, written or kept
+pub record IsBadWords {S K : Type 0} (before after : S) (old new : K) (out : Outcome) : Type 0 where
+  pub ended : out.status ≡ status.BadWords
+  pub source : after ≡ before
+  pub sink : new ≡ old
+  pub history : out.kept.items ≡ []

@@ -1,0 +1,196 @@
+-- what each command does with what it read
+use Rattle.std.specs.Prelude.{◌≡◌, ◌≢◌, ◌⊎◌, ℕ, ◌<◌, ◌≤◌, Bool, true, false, List, [], Option, Some, None, IsTrue, Ok, replicate}
+use Rattle.plat_base.specs.Machine.{Machine}
+use Rattle.plat_base.specs.Schedule.{coarse_run}
+use Rattle.plat_base.specs.Verdicts.{policy_answer}
+use Rattle.plat_base.specs.Runs.{IsCoherentRun, IsOver, GuestsEnd}
+use Rattle.plat_base.specs.Histories.{AtEachAccess}
+use Rattle.plat_base.specs.Coherent.{FindsFrameWord}
+use Rattle.plat_base.specs.Rules.{first_bad, Good}
+use Rattle.plat_base.specs.Report.{report, summary}
+use Rattle.plat_base.specs.Canon.{canon_text}
+use Rattle.plat_base.specs.Statuses.{status_of, ends_as}
+use Rattle.plat_grammar.specs.Grammar.{IsTextOf}
+use Rattle.plat_grammar.specs.FirstFault.{text_at}
+use Rattle.plat_grammar.specs.HistoryCanon.{History, history_text}
+use Rattle.plat_base.specs.declared.items.Item.{Item}
+use Rattle.plat_base.specs.declared.endings.End.TheVariants as end
+use Rattle.plat_base.specs.declared.endings.Ended.{Ended}
+use Rattle.plat_base.specs.declared.statuses.Bad.{Bad}
+use Rattle.plat_base.specs.declared.statuses.Status.{Status}
+use Rattle.plat_base.specs.declared.statuses.Status.TheVariants as status
+use Rattle.plat_io.specs.Adds.{is_part}
+use Rattle.plat_io.specs.Streams.{HasRisen, added}
+use Rattle.plat_io.specs.declared.sinks.Sink.{Ghosts}
+use Rattle.plat_cmd.specs.declared.words.Command.{Command}
+use Rattle.plat_cmd.specs.declared.words.Command.TheVariants as command
+use Rattle.plat_cmd.specs.declared.words.Grain.TheVariants as grain
+use Rattle.plat_cmd.specs.declared.words.Output.{Output}
+use Rattle.plat_cmd.specs.declared.words.Output.TheVariants as output
+use Rattle.plat_gen.specs.Generated.{generated}
+use Rattle.plat_gen_laws.specs.Halts.{halted_in}
+use Rattle.plat_cmd.specs.Inputs.{Told, input_of, reads_some}
+
+-- ---- what was written
+
+-- the bytes were added to the sink, or, where the status is WriteFault, a part of them from the front, and its count of
+-- faults has risen
+pub record IsWritten {K : Type 0} (sink : Ghosts K) (old new : K) (now : Status) (bytes : List ℕ) : Type 0 where
+  pub whole : now ≢ status.WriteFault → sink.holds new ≡ added (sink.holds old) bytes
+  pub part : now ≡ status.WriteFault → IsTrue (is_part (sink.holds old) bytes (sink.holds new))
+  pub risen : now ≡ status.WriteFault → HasRisen (sink.faults old) (sink.faults new)
+  pub count : sink.faults old ≤ sink.faults new
+  pub size : sink.size new ≡ sink.size old
+
+-- the status is this one, or WriteFault
+abbrev pub IsOrWriteFault : Status → Status → Type 0
+IsOrWriteFault complete now = (now ≡ complete) ⊎ (now ≡ status.WriteFault)
+
+-- ---- check
+
+-- the canonical text of m was written; it is a text of m, and is read as m again
+pub record HasPrinted {K : Type 0} (sink : Ghosts K) (m : Machine) (old new : K) (now : Status) (kept : List Item) : Type 0 where
+  pub written : IsWritten sink old new now (canon_text m)
+  pub ended : IsOrWriteFault status.Done now
+  pub text : IsTextOf (canon_text m) m
+  pub read_again : text_at (canon_text m) ≡ Ok m
+  pub history : kept ≡ []
+
+-- ---- sim
+
+abbrev pub history_of : Machine → List Item
+history_of m = (coarse_run m (policy_answer m.policy)).history
+
+abbrev pub ends_of : Machine → List Ended
+ends_of m = (coarse_run m (policy_answer m.policy)).ends
+
+-- what a run writes
+abbrev pub output_of : Output → Machine → List Item → List Ended → List ℕ
+output_of output.Report m items ends = report m items ends
+output_of output.Trace m items ends = history_text (record { machine = m; items = items; ends = ends })
+
+-- the coarse run of m was made and kept, and its output was written
+pub record HasRun {K : Type 0} (o : Output) (sink : Ghosts K) (m : Machine) (old new : K) (now : Status) (kept : List Item) : Type 0 where
+  -- the history that is kept is that of the coarse run
+  pub history : kept ≡ history_of m
+  -- it breaks no rule and is one history of flat memory; nobody is spent, or lacks a frame, without need
+  pub coherent : IsCoherentRun m (policy_answer m.policy) kept (ends_of m)
+  -- each access finds its value in the frame that it goes to
+  pub frames : AtEachAccess kept (FindsFrameWord m)
+  -- every processor ended
+  pub over : IsOver m (ends_of m)
+  -- printed values, final memory and counts are this history's
+  pub written : IsWritten sink old new now (output_of o m kept (ends_of m))
+  pub ended : IsOrWriteFault (status_of (ends_of m) false) now
+
+-- ---- replay
+
+-- the first bad item of a history, with its rule
+abbrev pub first_bad_of : History → Option Bad
+first_bad_of h = first_bad h.machine (policy_answer h.machine.policy) h.items h.ends
+
+-- the history h was kept, and its report was written
+pub record HasReplayed {K : Type 0} (sink : Ghosts K) (h : History) (old new : K) (now : Status) (kept : List Item) : Type 0 where
+  pub history : kept ≡ h.items
+  -- it breaks no rule and is one history of flat memory; nobody is spent, or lacks a frame, without need
+  pub coherent : IsCoherentRun h.machine (policy_answer h.machine.policy) kept h.ends
+  -- printed values, final memory and counts are this history's
+  pub written : IsWritten sink old new now (report h.machine kept h.ends)
+  pub ended : IsOrWriteFault (status_of h.ends false) now
+
+-- no item and no end breaks a rule, and no processor was spent or lacked a frame
+pub record IsDoneHistory (h : History) : Type 0 where
+  pub good : Good h.machine (policy_answer h.machine.policy) h.items h.ends
+  pub unspent : ends_as end.Spent h.ends ≡ false
+  pub framed : ends_as end.NoFrames h.ends ≡ false
+
+-- ---- big
+
+-- the coarse run of the n-th generated machine was made and kept, and its summary was written
+pub record HasSummed {K : Type 0} (n : ℕ) (sink : Ghosts K) (m : Machine) (old new : K) (now : Status) (kept : List Item) : Type 0 where
+  -- the history that is kept is that of the coarse run
+  pub history : kept ≡ history_of m
+  -- it breaks no rule and is one history of flat memory; nobody lacks a frame
+  pub coherent : IsCoherentRun m (policy_answer m.policy) kept (ends_of m)
+  -- each access finds its value in the frame that it goes to
+  pub frames : AtEachAccess kept (FindsFrameWord m)
+  -- every processor halted in the same turn
+  pub halted : ends_of m ≡ replicate 8 (halted_in 40008)
+  pub written : IsWritten sink old new now (summary n m kept (ends_of m))
+  pub ended : IsOrWriteFault status.Done now
+
+-- ---- each command
+
+-- what a command does with what it read
+abbrev pub HasDone : {K : Type 0} (c : Command) → Ghosts K → Told (input_of c) → K → K → Status → List Item → Type 0
+HasDone command.Check sink m old new now kept = HasPrinted sink m old new now kept
+HasDone (command.Sim grain.Coarse o) sink m old new now kept = HasRun o sink m old new now kept
+HasDone (command.Gen n) sink it old new now kept = HasPrinted sink (generated n) old new now kept
+HasDone (command.Big n) sink it old new now kept = HasSummed n sink (generated n) old new now kept
+HasDone command.Replay sink h old new now kept = HasReplayed sink h old new now kept
+
+-- what is bad of a history, where the status says it
+abbrev pub bad_of : Status → Option Bad
+bad_of status.Done = None
+bad_of (status.HistoryBad bad) = Some bad
+bad_of (status.Refused refused) = None
+bad_of status.NoFrames = None
+bad_of status.Spent = None
+bad_of status.EventLimit = None
+bad_of status.ReadFault = None
+bad_of status.WriteFault = None
+bad_of status.OutOfMemory = None
+bad_of status.BadWords = None
+
+-- what a command read is a history whose first bad item is this
+abbrev pub IsFirstBad : (c : Command) → Told (input_of c) → Bad → Type 0
+IsFirstBad command.Check m bad = ⊥
+IsFirstBad (command.Sim g o) m bad = ⊥
+IsFirstBad (command.Gen n) it bad = ⊥
+IsFirstBad (command.Big n) it bad = ⊥
+IsFirstBad command.Replay h bad = first_bad_of h ≡ Some bad
+
+-- done, but for want of memory
+abbrev pub IsDoneWithMemory : Status → Type 0
+IsDoneWithMemory now = (now ≡ status.Done) ⊎ (now ≡ status.OutOfMemory)
+
+-- some processor found no frame, and there are too few
+abbrev pub LacksFrames : Machine → Status → Type 0
+LacksFrames m now = (m.frames < m.pages) × (now ≡ status.NoFrames)
+
+-- what a command comes to where no read and no write fails: to its end, but for want of memory. A run of guests that halt or
+-- trap within the budget, on the values that they get in the history, can come to want of frames too, if there are too few
+abbrev pub IsComplete : (c : Command) → Told (input_of c) → Status → List Item → Type 0
+IsComplete command.Check m now kept = IsDoneWithMemory now
+IsComplete (command.Sim g o) m now kept = GuestsEnd m kept → IsDoneWithMemory now ⊎ LacksFrames m now
+IsComplete (command.Gen n) it now kept = IsDoneWithMemory now
+IsComplete (command.Big n) it now kept = IsDoneWithMemory now
+IsComplete command.Replay h now kept = IsDoneHistory h → IsDoneWithMemory now
+
+-- a command whose guests may spend their budgets, or lack a frame
+abbrev pub is_run : Command → Bool
+is_run command.Check = false
+is_run (command.Sim g o) = true
+is_run (command.Gen n) = false
+is_run (command.Big n) = false
+is_run command.Replay = true
+
+abbrev pub is_judge : Command → Bool
+is_judge command.Check = false
+is_judge (command.Sim g o) = false
+is_judge (command.Gen n) = false
+is_judge (command.Big n) = false
+is_judge command.Replay = true
+
+-- the statuses that a command can end with
+abbrev pub may_end : Command → Status → Bool
+may_end c status.Done = true
+may_end c (status.HistoryBad bad) = is_judge c
+may_end c (status.Refused refused) = reads_some (input_of c)
+may_end c status.NoFrames = is_run c
+may_end c status.Spent = is_run c
+may_end c status.EventLimit = false
+may_end c status.ReadFault = reads_some (input_of c)
+may_end c status.WriteFault = true
+may_end c status.OutOfMemory = true
+may_end c status.BadWords = false

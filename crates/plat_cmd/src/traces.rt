@@ -1,0 +1,45 @@
+//! Traces: the coarse run of a machine, and its history text.
+ghost use Rattle.std.specs.Prelude.{◌≡◌, ◌⊎◌};
+ghost use Rattle.plat_base.specs.Seen.{machine};
+ghost use Rattle.plat_cmd.specs.Works.{HasRun, history_of, ends_of};
+ghost use Rattle.plat_cmd.specs.Steps.{HasStopped};
+ghost use Rattle.plat_cmd.specs.declared.outcomes.Stop.TheVariants as stops;
+ghost use Rattle.plat_cmd.specs.declared.words.Output.TheVariants as outputs;
+
+use crate::outcomes::{Outcome, status_after, status_of, without_run};
+use crate::runs::run;
+use plat_base::{Config, Finished, Status};
+use plat_history::print_items;
+use plat_io::Sink;
+use std::alloc::Global;
+
+/// Writes the history text of a run.
+fn traced<K: Sink>(finished: Finished, sink: &mut K) -> Outcome
+    requires items { finished.items.items ≡ history_of (machine finished.cfg) }
+    requires ends { finished.ends.items ≡ ends_of (machine finished.cfg) }
+    ensures { let m = machine finished.cfg
+        in HasRun outputs.Trace K.Sink m sink.old sink.new result.status result.kept.items }
+{
+    let written = print_items(
+        &finished.cfg,
+        finished.items.as_slice(),
+        finished.ends.as_slice(),
+        sink,
+    );
+    let complete = status_of(finished.ends.as_slice());
+    Outcome {
+        status: status_after(complete, written),
+        kept: finished.items,
+    }
+}
+
+/// Makes the coarse run of a machine and writes its history text.
+pub fn trace<K: Sink>(alloc: Global, cfg: Config, sink: &mut K) -> Outcome
+    ensures { HasRun outputs.Trace K.Sink (machine cfg) sink.old sink.new result.status result.kept.items
+        ⊎ HasStopped stops.OutOfMemory sink.old sink.new result }
+{
+    match run(alloc, cfg) {
+        Ok(finished) => traced(finished, sink),
+        Err(_) => without_run(alloc, Status::OutOfMemory),
+    }
+}

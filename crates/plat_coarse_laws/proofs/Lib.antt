@@ -1,0 +1,12 @@
+pub mod MessageLaws
+pub mod FrameLaws
+pub mod SettledLaws
+pub mod SettledSwitchLaws
+pub mod TurnItemLaws
+pub mod RunLaws
+pub mod TurnLaws
+pub mod RoomLaws
+pub mod FreeLaws
+pub mod FrameWordLaws
+pub mod CoherentLaws
+pub mod CoarseRunLaws

@@ -1,0 +1,5 @@
+pub mod PlanLaws
+pub mod DistanceLaws
+pub mod RestLaws
+pub mod BoundLaws
+pub mod CostLaws

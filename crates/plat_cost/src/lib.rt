@@ -1,0 +1,16 @@
+//! Costs of a page: what its accesses and copies really cost, and the least cost of a single copy that may move.
+#![tactic(auto)]
+
+mod bounds;
+mod costs;
+mod distances;
+mod laws;
+mod placers;
+mod rests;
+
+pub use bounds::check_bound;
+pub use laws::one_best_plan;
+pub use placers::{Placed, Placer};
+
+#[cfg(test)]
+mod tests;

@@ -1,0 +1,14 @@
+pub mod Words
+pub mod Places
+pub mod Operations
+pub mod Shootdowns
+pub mod Sessions
+pub mod Privates
+pub mod Scans
+pub mod Events
+pub mod Runs
+pub mod Standings
+pub mod Kept
+pub mod Views
+pub mod Shown
+pub mod Merges

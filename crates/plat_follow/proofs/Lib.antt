@@ -1,0 +1,5 @@
+pub mod RunLemmas
+pub mod NextLemmas
+pub mod FollowLemmas
+pub mod EndLemmas
+pub mod ProcessorLemmas

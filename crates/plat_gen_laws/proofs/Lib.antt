@@ -1,0 +1,4 @@
+pub mod GuestSteps
+pub mod GuestPasses
+pub mod HaltLaws
+pub mod GeneratedLaws

@@ -1,0 +1,9 @@
+pub mod Lines
+pub mod Forms
+pub mod Grammar
+pub mod Drafts
+pub mod FirstFault
+pub mod HistoryCanon
+pub mod HistoryForms
+pub mod HistoryGrammar
+pub mod HistoryFaults

@@ -1,0 +1,14 @@
+pub mod PartLemmas
+pub mod EndLemmas
+pub mod LoopLemmas
+pub mod NameLaws
+pub mod PartLaws
+pub mod DirLaws
+pub mod ItemLaws
+pub mod SectionLaws
+pub mod HistoryLaws
+pub mod CopyLemmas
+pub mod AddsLemmas
+pub mod LineLemmas
+pub mod PlainHistory
+pub mod PrintedLaws

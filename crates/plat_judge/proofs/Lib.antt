@@ -1,0 +1,4 @@
+pub mod RuleLemmas
+pub mod ChangeLemmas
+pub mod EndLemmas
+pub mod JudgeLemmas

@@ -1,0 +1,6 @@
+pub mod Races
+pub mod Marks
+pub mod Tabled
+pub mod Orders
+pub mod Searches
+pub mod Tried

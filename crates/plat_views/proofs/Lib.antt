@@ -1,0 +1,4 @@
+pub mod StepLaws
+pub mod HeldLaws
+pub mod WaitLaws
+pub mod UseLaws

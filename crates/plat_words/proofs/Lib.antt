@@ -1,0 +1,11 @@
+pub mod Fields
+pub mod SingleBits
+pub mod Sames
+pub mod CopyFields
+pub mod Directories
+pub mod Entries
+pub mod PlacesApart
+pub mod Masks
+pub mod Locks
+pub mod Numbers
+pub mod Pools
