@@ -1,9 +1,8 @@
 -- what the command of one positional argument makes of plain words
-use Rattle.std.proofs.Common.{◌≡◌, ℕ, Bool, true, false, List, [], ◌∷◌, Option, Some, None, refl, ap, arith, codes, subst, sym, get_or}
-use Rattle.std.specs.Prelude.{IsTrue, not, ◌==◌, ◌&&◌, nat_le, length, max, IsSomeAnd}
+use Rattle.std.proofs.Common.{◌≡◌, ℕ, Bool, true, false, List, [], ◌∷◌, Option, Some, None, refl, ap, arith, codes, subst, sym}
+use Rattle.std.specs.Prelude.{IsTrue, not, ◌==◌, ◌&&◌, IsSomeAnd}
 use Rattle.std.proofs.lemmas.Bool.{and_parts}
-use Rattle.std.specs.List.{list_all}
-use Rattle.clap.specs.Words.{App, Row, Rule, Text, is_simple, new_app, new_rule, takes, with_rule}
+use Rattle.clap.specs.Words.{App, Rule, Text, is_simple, new_app, new_rule, takes, with_rule}
 use Rattle.clap.specs.Walk.{all_of}
 use Rattle.clap.specs.Simple.{matches_of}
 use Rattle.std.proofs.lemmas.Bool.Decides.{nat_tests}

@@ -1,9 +1,8 @@
 -- words that are not plain name no command
-use Rattle.std.proofs.Common.{◌≡◌, ℕ, Bool, true, false, List, [], ◌∷◌, Result, Ok, Err, codes, refl, sym, ap, ◌∙◌, cond, if◌then◌else◌, arith}
-use Rattle.std.specs.Prelude.{IfOk, ◌&&◌, ◌||◌, ◌==◌, not, nat_lt, ◌^◌, nat_le, length, nat_eq}
+use Rattle.std.proofs.Common.{◌≡◌, ℕ, Bool, true, false, List, [], ◌∷◌, Result, Ok, Err, codes, refl, sym, ap, ◌∙◌, if◌then◌else◌, arith}
+use Rattle.std.specs.Prelude.{IfOk, ◌==◌, not, nat_lt, ◌^◌}
 use Rattle.std.specs.Str.{bytes_eq}
 use Rattle.std.specs.Char.{is_ascii_digit}
-use Rattle.std.specs.List.{list_all}
 use Rattle.std.proofs.lemmas.Bool.{and_parts, true≢false}
 use Rattle.std.proofs.lemmas.Bool.Decides.{nat_tests}
 use Rattle.std.proofs.lemmas.Slice.Eq.{bytes_eq-Decides}
@@ -14,7 +13,7 @@ use Rattle.plat_cmd.specs.Commands.{same_words, with_number, numbered_of, read_o
 use Rattle.std.specs.Str.Parse.{digits_value}
 use Rattle.plat_base.specs.declared.faults.Why.TheVariants.{TooLarge, NotNumber}
 use Rattle.plat_cmd.specs.declared.words.Command.{Command}
-use Rattle.plat_cmd.specs.declared.words.Command.TheVariants.{Check, Sim, Replay, Gen, Big}
+use Rattle.plat_cmd.specs.declared.words.Command.TheVariants.{Check, Sim, Replay, Race, Cost, Gen, Big}
 use Rattle.plat_cmd.specs.declared.words.Grain.TheVariants.{Coarse}
 use Rattle.plat_cmd.specs.declared.words.Output.TheVariants.{Report, Trace}
 use Rattle.plat_cmd.specs.declared.words.WordsFault.{WordsFault}
@@ -72,34 +71,24 @@ numbered-plain (name ∷ []) c h = absurd cc
 numbered-plain (name ∷ number ∷ []) c h = pair-plain name number (number_of number) c refl h
 numbered-plain (name ∷ number ∷ word ∷ words) c h = absurd cc
 
-abbrev check : List (List ℕ)
-check = codes "check" ∷ []
-
-abbrev coarse : List (List ℕ)
-coarse = codes "sim" ∷ codes "coarse" ∷ []
-
-abbrev traced : List (List ℕ)
-traced = codes "sim" ∷ codes "coarse" ∷ codes "trace" ∷ []
-
-abbrev replayed : List (List ℕ)
-replayed = codes "replay" ∷ []
+-- the words of a command are plain, and so are those that are read as another
+or_words :
+    (words names : List (List ℕ)) (d c : Command) (other : Result Command WordsFault) → are_plain names ≡ true
+    → (other ≡ Ok c → are_plain words ≡ true) → (if same_words words names then Ok d else other) ≡ Ok c → are_plain words ≡ true
+or_words words names d c other plain rest h = by (same_words words names) refl h
+  where
+    by : (same : Bool) → same_words words names ≡ same → (if same then Ok d else other) ≡ Ok c → are_plain words ≡ true
+    by true is k = ap are_plain (same_words-equal words names is) ∙ plain
+    by false is k = rest k
 
 command-plain : (words : List (List ℕ)) (c : Command) → read_of words ≡ Ok c → are_plain words ≡ true
 command-plain words c h =
-    by (same_words words check) refl (same_words words coarse) refl (same_words words traced) refl (same_words words replayed) refl h
-  where
-    by :
-        (a : Bool) → same_words words check ≡ a → (b : Bool) → same_words words coarse ≡ b
-        → (d : Bool) → same_words words traced ≡ d → (e : Bool) → same_words words replayed ≡ e
-        → (if a then Ok Check
-        else if b then Ok (Sim Coarse Report) else if d then Ok (Sim Coarse Trace) else if e then Ok Replay else numbered_of words)
-        ≡ Ok c
-        → are_plain words ≡ true
-    by true is b f d g e l k = ap are_plain (same_words-equal words check is)
-    by false is true f d g e l k = ap are_plain (same_words-equal words coarse f)
-    by false is false f true g e l k = ap are_plain (same_words-equal words traced g)
-    by false is false f false g true l k = ap are_plain (same_words-equal words replayed l)
-    by false is false f false g false l k = numbered-plain words c k
+    or_words words (codes "check" ∷ []) Check c _ refl
+    (or_words words (codes "sim" ∷ codes "coarse" ∷ []) (Sim Coarse Report) c _ refl
+    (or_words words (codes "sim" ∷ codes "coarse" ∷ codes "trace" ∷ []) (Sim Coarse Trace) c _ refl
+    (or_words words (codes "replay" ∷ []) Replay c _ refl
+    (or_words words (codes "race" ∷ []) Race c _ refl
+    (or_words words (codes "cost" ∷ []) Cost c _ refl (numbered-plain words c)))))) h
 
 -- words that are not plain name no command
 pub unplain : (words : List (List ℕ)) (P : Command → Type 0) → are_plain words ≡ false → IfOk (read_of words) P

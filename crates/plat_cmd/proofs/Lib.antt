@@ -5,5 +5,7 @@ pub mod RunLemmas
 pub mod ReadLemmas
 pub mod EndingLemmas
 pub mod PromiseLemmas
-pub mod ReplayLemmas
+pub mod GoodLemmas
+pub mod RaceLemmas
+pub mod JudgingLemmas
 pub mod RunDoneLemmas

@@ -5,34 +5,32 @@ use Rattle.plat_base.specs.Seen.{machine}
 use Rattle.plat_base.specs.Verdicts.{policy_answer}
 use Rattle.plat_base.specs.Statuses.{status_of, ends_as, is_silent, refusal_of}
 use Rattle.plat_base.specs.declared.endings.End.TheVariants as end
-use Rattle.plat_base.specs.Machine.{Machine}
 use Rattle.plat_base.specs.declared.configs.Config.{Config}
 use Rattle.plat_base.specs.declared.items.Item.{Item}
 use Rattle.plat_base.specs.declared.statuses.Bad.{Bad}
 use Rattle.plat_base.specs.declared.statuses.Status.{Status}
 use Rattle.plat_base.specs.declared.statuses.Status.TheVariants as status
 use Rattle.plat_grammar.specs.FirstFault.{text_at}
-use Rattle.plat_grammar.specs.Grammar.{IsMachine, IsTextOf}
+use Rattle.plat_grammar.specs.Grammar.{IsTextOf}
+use Rattle.plat_grammar.specs.HistoryCanon.{History}
 use Rattle.plat_grammar.specs.HistoryFaults.{history_at}
 use Rattle.plat_grammar.specs.HistoryGrammar.{IsHistory, IsHistoryTextOf}
 use Rattle.plat_history.specs.Shown.{seen}
-use Rattle.plat_history.specs.declared.histories.History.{History}
+use Rattle.plat_history.specs.declared.histories.History.{History as Read}
 use Rattle.plat_io.specs.Streams.{HasRisen, IsAtEnd}
 use Rattle.plat_io.specs.declared.sinks.Sink.{Ghosts}
 use Rattle.plat_io.specs.declared.sources.Source.{Ghosts as Reader}
 use Rattle.plat_gen.specs.Generated.{generated}
 use Rattle.plat_cmd.specs.Inputs.{Input, machine_text, history_text, nothing, input_of, reads_some, Told, IsToldAs, IsToldHistory, IsRead, HasRead, IfTold, IsFault}
-use Rattle.plat_cmd.specs.Works.{HasPrinted, HasRun, HasSummed, HasDone, bad_of, IsFirstBad, IsComplete, ends_of, is_run, is_judge, may_end}
+use Rattle.plat_cmd.specs.Works.{HasPrinted, HasSummed, HasDone, bad_of, first_bad_of, IsFirstBad, IsComplete, ends_of, is_run, is_judge, may_end}
+use Rattle.plat_cmd.specs.Judgings.{HasFailed}
 use Rattle.plat_cmd.specs.Promises.{IsNoRefusal, IsQuiet, IsEnded, Promises}
 use Rattle.plat_cmd.specs.Steps.{IsStop, StopsAs, AcceptsAs, read_as, HasStopped, stop_status}
 use Rattle.plat_cmd.specs.declared.words.Command.{Command}
 use Rattle.plat_cmd.specs.declared.words.Command.TheVariants as command
 use Rattle.plat_cmd.specs.declared.words.WordsFault.{WordsFault}
 use Rattle.plat_cmd.specs.declared.words.WordsFault.TheVariants as words
-use Rattle.plat_cmd.specs.declared.words.Grain.{Grain}
 use Rattle.plat_cmd.specs.declared.words.Grain.TheVariants as grain
-use Rattle.plat_cmd.specs.declared.words.Output.{Output}
-use Rattle.plat_cmd.specs.declared.words.Output.TheVariants as output
 use Rattle.plat_cmd.specs.declared.outcomes.Outcome.{Outcome}
 use Rattle.plat_cmd.specs.declared.outcomes.Stop.{Stop}
 use Rattle.plat_cmd.specs.declared.outcomes.Stop.TheVariants as stop
@@ -59,6 +57,8 @@ module _ {K : Type 0} (sink : Ghosts K) (old new : K) (now : Status) (kept : Lis
       ⊎_elim (λ is. ap is_silent is ∙ silent_run (status_of (ends_of m) false) (run_status (ends_of m))) (λ is. ap is_silent is) done.ended
   done_is_told (command.Gen n) it done = ⊎_elim (λ is. ap is_silent is) (λ is. ap is_silent is) done.ended
   done_is_told (command.Big n) it done = ⊎_elim (λ is. ap is_silent is) (λ is. ap is_silent is) done.ended
+  done_is_told command.Race h done = ⊎_elim (λ is. ap is_silent is) (λ is. ap is_silent is) done.ended
+  done_is_told command.Cost h done = ⊎_elim (λ is. ap is_silent is) (λ is. ap is_silent is) done.ended
   done_is_told command.Replay h done =
       ⊎_elim (λ is. ap is_silent is ∙ silent_run (status_of h.ends false) (run_status h.ends)) (λ is. ap is_silent is) done.ended
 
@@ -69,6 +69,8 @@ module _ {K : Type 0} (sink : Ghosts K) (old new : K) (now : Status) (kept : Lis
       (λ is. ap (may_end (command.Sim grain.Coarse o)) is) done.ended
   done_may_end (command.Gen n) it done = ⊎_elim (λ is. ap (may_end (command.Gen n)) is) (λ is. ap (may_end (command.Gen n)) is) done.ended
   done_may_end (command.Big n) it done = ⊎_elim (λ is. ap (may_end (command.Big n)) is) (λ is. ap (may_end (command.Big n)) is) done.ended
+  done_may_end command.Race h done = ⊎_elim (λ is. ap (may_end command.Race) is) (λ is. ap (may_end command.Race) is) done.ended
+  done_may_end command.Cost h done = ⊎_elim (λ is. ap (may_end command.Cost) is) (λ is. ap (may_end command.Cost) is) done.ended
   done_may_end command.Replay h done =
       ⊎_elim (λ is. ap (may_end command.Replay) is ∙ may_run command.Replay refl (status_of h.ends false) (run_status h.ends)) (λ is. ap (may_end command.Replay) is) done.ended
 
@@ -78,6 +80,8 @@ module _ {K : Type 0} (sink : Ghosts K) (old new : K) (now : Status) (kept : Lis
   done_has_written (command.Gen n) it done = done.written.risen
   done_has_written (command.Big n) it done = done.written.risen
   done_has_written command.Replay h done = done.written.risen
+  done_has_written command.Race h done = done.written.risen
+  done_has_written command.Cost h done = done.written.risen
 
   pub done_complete : (c : Command) (it : Told (input_of c)) → HasDone c sink it old new now kept → IsQuiet (sink.faults old) (sink.faults new) → IsComplete c it now kept
   done_complete command.Check m done quiet = ⊎_elim (λ is. inl is) (λ fault. absurd (quiet (done.written.risen fault))) done.ended
@@ -85,6 +89,8 @@ module _ {K : Type 0} (sink : Ghosts K) (old new : K) (now : Status) (kept : Lis
       ⊎_elim (λ is. finished_status m (policy_answer m.policy) kept (ends_of m) done.coherent guests now is) (λ fault. absurd (quiet (done.written.risen fault))) done.ended
   done_complete (command.Gen n) it done quiet = ⊎_elim (λ is. inl is) (λ fault. absurd (quiet (done.written.risen fault))) done.ended
   done_complete (command.Big n) it done quiet = ⊎_elim (λ is. inl is) (λ fault. absurd (quiet (done.written.risen fault))) done.ended
+  done_complete command.Race h done quiet = λ good. ⊎_elim (λ is. inl is) (λ fault. absurd (quiet (done.written.risen fault))) done.ended
+  done_complete command.Cost h done quiet = λ good. ⊎_elim (λ is. inl is) (λ fault. absurd (quiet (done.written.risen fault))) done.ended
   done_complete command.Replay h done quiet = λ whole.
       ⊎_elim (λ is. inl (is ∙ done_status (ends_as end.NoFrames h.ends) (ends_as end.Spent h.ends) whole.framed whole.unspent))
       (λ fault. absurd (quiet (done.written.risen fault))) done.ended
@@ -97,6 +103,14 @@ found_judges (command.Sim g o) m bad first = absurd first
 found_judges (command.Gen n) it bad first = absurd first
 found_judges (command.Big n) it bad first = absurd first
 found_judges command.Replay h bad first = refl
+found_judges command.Race h bad first = refl
+found_judges command.Cost h bad first = refl
+
+bad_is_not_good : (h : History) (bad : Bad) → first_bad_of h ≡ Some bad → first_bad_of h ≡ None → ⊥
+bad_is_not_good h bad first good = some_is_not_none bad (sym first ∙ good)
+  where
+    some_is_not_none : (bad : Bad) → Some bad ≡ None → ⊥
+    some_is_not_none bad is = cc
 
 -- a history that is bad is not one of a run that is done
 found_complete : (c : Command) (it : Told (input_of c)) (bad : Bad) (now : Status) (kept : List Item) → IsFirstBad c it bad → IsComplete c it now kept
@@ -104,10 +118,9 @@ found_complete command.Check m bad now kept first = absurd first
 found_complete (command.Sim g o) m bad now kept first = absurd first
 found_complete (command.Gen n) it bad now kept first = absurd first
 found_complete (command.Big n) it bad now kept first = absurd first
-found_complete command.Replay h bad now kept first = λ whole. absurd (by (sym first ∙ whole.good))
-  where
-    by : Some bad ≡ None → ⊥
-    by is = cc
+found_complete command.Replay h bad now kept first = λ whole. absurd (bad_is_not_good h bad first whole.good)
+found_complete command.Race h bad now kept first = λ good. absurd (bad_is_not_good h bad first good)
+found_complete command.Cost h bad now kept first = λ good. absurd (bad_is_not_good h bad first good)
 
 bad_is_no_write_fault : (bad : Bad) → status.HistoryBad bad ≡ status.WriteFault → ⊥
 bad_is_no_write_fault bad is = cc
@@ -132,6 +145,12 @@ stop_may_end (command.Sim g o) before after stop.OutOfMemory may = refl
 stop_may_end command.Replay before after (stop.Refused r) may = refl
 stop_may_end command.Replay before after stop.ReadFault may = refl
 stop_may_end command.Replay before after stop.OutOfMemory may = refl
+stop_may_end command.Race before after (stop.Refused r) may = refl
+stop_may_end command.Race before after stop.ReadFault may = refl
+stop_may_end command.Race before after stop.OutOfMemory may = refl
+stop_may_end command.Cost before after (stop.Refused r) may = refl
+stop_may_end command.Cost before after stop.ReadFault may = refl
+stop_may_end command.Cost before after stop.OutOfMemory may = refl
 stop_may_end (command.Gen n) before after (stop.Refused r) may = absurd may
 stop_may_end (command.Gen n) before after stop.ReadFault may = absurd may
 stop_may_end (command.Gen n) before after stop.OutOfMemory may = refl
@@ -180,6 +199,8 @@ want_complete (command.Sim g o) m now kept want = λ guests. inl (inr want)
 want_complete (command.Gen n) it now kept want = inr want
 want_complete (command.Big n) it now kept want = inr want
 want_complete command.Replay h now kept want = λ whole. inr want
+want_complete command.Race h now kept want = λ good. inr want
+want_complete command.Cost h now kept want = λ good. inr want
 
 -- ---- both
 
@@ -311,6 +332,15 @@ module _ {S K : Type 0} (c : Command) (source : Reader S) (sink : Ghosts K) (bef
       comes other (inl fault) = λ quiet wrote. absurd (quiet (stop_read_fault (input_of c) (source.left before) (source.faults before) (source.faults after) s is (sym has.ended ∙ fault)))
       comes other (inr want) = λ quiet wrote. want_complete c other out.status out.kept.items want
 
+  -- a command that ended before it did its work
+  pub failed :
+      (now : Status) → HasFailed (input_of c) source (IsFirstBad c) before after now → out.status ≡ now → ((s : Stop) → StopsAs (input_of c) before after s)
+      → out.kept.items ≡ [] → new ≡ old → source.faults before ≤ source.faults after → Promises c source sink before after old new out
+  failed now has is may kept unwritten count =
+      ⊎_elim
+      (λ why. stopped why.why why.stopped (may why.why) (record { ended = is ∙ why.ended; history = kept; sink = unwritten }) why.no_refusal count)
+      (λ bad. found bad.it bad.bad bad.read bad.first (is ∙ bad.ended) kept unwritten bad.only count) has
+
 -- ---- reading nothing
 
 stops_for_want : {S : Type 0} (i : Input) (x : S) → StopsAs i x x stop.OutOfMemory
@@ -353,16 +383,16 @@ module _ (told left : Option (List ℕ)) (result : Result Config Stop) where
     all = subst (λ (r : Result Config Stop). OnOk r (IsAtEnd left)) is all;
   }
 
-module _ (told left : Option (List ℕ)) (result : Result History Stop) where
+module _ (told left : Option (List ℕ)) (result : Result Read Stop) where
   pub told_history :
-      (h : History) → result ≡ Ok h → IfOk result (λ h. IsHistory (seen h)) → IfOk result (λ h. IfSome told (λ bytes. IsHistoryTextOf bytes (seen h)))
+      (h : Read) → result ≡ Ok h → IfOk result (λ h. IsHistory (seen h)) → IfOk result (λ h. IfSome told (λ bytes. IsHistoryTextOf bytes (seen h)))
       → IfOk result (λ h. IfSome told (λ bytes. history_at bytes ≡ Ok (seen h))) → OnOk result (IsAtEnd left)
       → IsToldHistory told left (seen h)
   told_history h is ranges found exact all = record {
-    ranges = subst (λ (r : Result History Stop). IfOk r (λ h. IsHistory (seen h))) is ranges;
-    text = subst (λ (r : Result History Stop). IfOk r (λ h. IfSome told (λ bytes. IsHistoryTextOf bytes (seen h)))) is found;
-    read = subst (λ (r : Result History Stop). IfOk r (λ h. IfSome told (λ bytes. history_at bytes ≡ Ok (seen h)))) is exact;
-    all = subst (λ (r : Result History Stop). OnOk r (IsAtEnd left)) is all;
+    ranges = subst (λ (r : Result Read Stop). IfOk r (λ h. IsHistory (seen h))) is ranges;
+    text = subst (λ (r : Result Read Stop). IfOk r (λ h. IfSome told (λ bytes. IsHistoryTextOf bytes (seen h)))) is found;
+    read = subst (λ (r : Result Read Stop). IfOk r (λ h. IfSome told (λ bytes. history_at bytes ≡ Ok (seen h)))) is exact;
+    all = subst (λ (r : Result Read Stop). OnOk r (IsAtEnd left)) is all;
   }
 
 module _ {X : Type 0} (i : Input) (told : Option (List ℕ)) (result : Result X Stop) where

@@ -23,6 +23,8 @@ abbrev pub input_of : Command → Input
 input_of command.Check = machine_text
 input_of (command.Sim grain output) = machine_text
 input_of command.Replay = history_text
+input_of command.Race = history_text
+input_of command.Cost = history_text
 input_of (command.Gen n) = nothing
 input_of (command.Big n) = nothing
 

@@ -1,8 +1,6 @@
 -- what the parts of a command do
 use Rattle.std.specs.Prelude.{◌≡◌, ℕ, ◌≤◌, List, [], Option, Some, IfSome, Result, Ok, Err}
 use Rattle.plat_base.specs.Machine.{Machine}
-use Rattle.plat_grammar.specs.HistoryCanon.{History}
-use Rattle.plat_base.specs.declared.statuses.Bad.{Bad}
 use Rattle.plat_base.specs.Schedule.{Scheduled, scheduled, scheduled_turn}
 use Rattle.plat_base.specs.Verdicts.{policy_answer}
 use Rattle.plat_base.specs.declared.statuses.Status.{Status}
@@ -12,7 +10,6 @@ use Rattle.plat_io.specs.declared.faults.WriteFault.{WriteFault}
 use Rattle.plat_coarse.specs.CoarseSeen.{CoarseSeen}
 use Rattle.plat_sched.specs.ScheduleSeen.{ScheduleSeen}
 use Rattle.plat_cmd.specs.Inputs.{Input, machine_text, history_text, nothing, IsFault}
-use Rattle.plat_cmd.specs.Works.{first_bad_of}
 use Rattle.plat_cmd.specs.declared.outcomes.Outcome.{Outcome}
 use Rattle.plat_cmd.specs.declared.outcomes.Stop.{Stop}
 use Rattle.plat_cmd.specs.declared.outcomes.Stop.TheVariants as stop
@@ -52,16 +49,6 @@ stop_status stop.OutOfMemory = status.OutOfMemory
 -- a command stopped before it wrote anything
 pub record HasStopped {K : Type 0} (stopped : Stop) (old new : K) (out : Outcome) : Type 0 where
   pub ended : out.status ≡ stop_status stopped
-  pub history : out.kept.items ≡ []
-  pub sink : new ≡ old
-
--- ---- judging a history
-
--- the history is bad, and nothing was written or kept
-pub record HasFoundBad {K : Type 0} (h : History) (old new : K) (out : Outcome) : Type 0 where
-  pub found : Bad
-  pub first : first_bad_of h ≡ Some found
-  pub ended : out.status ≡ status.HistoryBad found
   pub history : out.kept.items ≡ []
   pub sink : new ≡ old
 

@@ -4,7 +4,7 @@ use Rattle.plat_base.specs.Machine.{Machine}
 use Rattle.plat_base.specs.Schedule.{coarse_run}
 use Rattle.plat_base.specs.Verdicts.{policy_answer}
 use Rattle.plat_base.specs.Runs.{IsCoherentRun, IsOver, GuestsEnd}
-use Rattle.plat_base.specs.Histories.{AtEachAccess}
+use Rattle.plat_base.specs.Histories.{AtEachAccess, IsLegalMemory}
 use Rattle.plat_base.specs.Coherent.{FindsFrameWord}
 use Rattle.plat_base.specs.Rules.{first_bad, Good}
 use Rattle.plat_base.specs.Report.{report, summary}
@@ -29,6 +29,10 @@ use Rattle.plat_cmd.specs.declared.words.Output.{Output}
 use Rattle.plat_cmd.specs.declared.words.Output.TheVariants as output
 use Rattle.plat_gen.specs.Generated.{generated}
 use Rattle.plat_gen_laws.specs.Halts.{halted_in}
+use Rattle.plat_cost.specs.CostLines.{cost_text}
+use Rattle.plat_race.specs.Orders.{KeepsOrder, items_at}
+use Rattle.plat_race.specs.Races.{first_race}
+use Rattle.plat_cmd.specs.Races.{race_text}
 use Rattle.plat_cmd.specs.Inputs.{Told, input_of, reads_some}
 
 -- ---- what was written
@@ -104,6 +108,31 @@ pub record IsDoneHistory (h : History) : Type 0 where
   pub unspent : ends_as end.Spent h.ends ≡ false
   pub framed : ends_as end.NoFrames h.ends ≡ false
 
+-- ---- race
+
+-- the first race of the history h was written, or that it has none
+pub record HasRaced {K : Type 0} (sink : Ghosts K) (h : History) (old new : K) (now : Status) (kept : List Item) : Type 0 where
+  -- it breaks no rule and is one history of flat memory; nobody is spent, or lacks a frame, without need
+  pub coherent : IsCoherentRun h.machine (policy_answer h.machine.policy) h.items h.ends
+  -- the race is the first one of this history
+  pub written : IsWritten sink old new now (race_text h.items)
+  -- without a race every list of the same accesses, each once and none behind one that it is before, is legal
+  pub free :
+      first_race h.items ≡ None → (places : List ℕ) → KeepsOrder h.items places → IsLegalMemory h.machine (items_at h.items places)
+  pub ended : IsOrWriteFault status.Done now
+  pub history : kept ≡ []
+
+-- ---- cost
+
+-- the costs of the history h were written, page by page, and their sums
+pub record HasCosted {K : Type 0} (sink : Ghosts K) (h : History) (old new : K) (now : Status) (kept : List Item) : Type 0 where
+  -- it breaks no rule and is one history of flat memory; nobody is spent, or lacks a frame, without need
+  pub coherent : IsCoherentRun h.machine (policy_answer h.machine.policy) h.items h.ends
+  -- each page's plan is the first of those that cost least
+  pub written : IsWritten sink old new now (cost_text h.machine h.items)
+  pub ended : IsOrWriteFault status.Done now
+  pub history : kept ≡ []
+
 -- ---- big
 
 -- the coarse run of the n-th generated machine was made and kept, and its summary was written
@@ -128,6 +157,8 @@ HasDone (command.Sim grain.Coarse o) sink m old new now kept = HasRun o sink m o
 HasDone (command.Gen n) sink it old new now kept = HasPrinted sink (generated n) old new now kept
 HasDone (command.Big n) sink it old new now kept = HasSummed n sink (generated n) old new now kept
 HasDone command.Replay sink h old new now kept = HasReplayed sink h old new now kept
+HasDone command.Race sink h old new now kept = HasRaced sink h old new now kept
+HasDone command.Cost sink h old new now kept = HasCosted sink h old new now kept
 
 -- what is bad of a history, where the status says it
 abbrev pub bad_of : Status → Option Bad
@@ -149,6 +180,8 @@ IsFirstBad (command.Sim g o) m bad = ⊥
 IsFirstBad (command.Gen n) it bad = ⊥
 IsFirstBad (command.Big n) it bad = ⊥
 IsFirstBad command.Replay h bad = first_bad_of h ≡ Some bad
+IsFirstBad command.Race h bad = first_bad_of h ≡ Some bad
+IsFirstBad command.Cost h bad = first_bad_of h ≡ Some bad
 
 -- done, but for want of memory
 abbrev pub IsDoneWithMemory : Status → Type 0
@@ -166,6 +199,8 @@ IsComplete (command.Sim g o) m now kept = GuestsEnd m kept → IsDoneWithMemory 
 IsComplete (command.Gen n) it now kept = IsDoneWithMemory now
 IsComplete (command.Big n) it now kept = IsDoneWithMemory now
 IsComplete command.Replay h now kept = IsDoneHistory h → IsDoneWithMemory now
+IsComplete command.Race h now kept = first_bad_of h ≡ None → IsDoneWithMemory now
+IsComplete command.Cost h now kept = first_bad_of h ≡ None → IsDoneWithMemory now
 
 -- a command whose guests may spend their budgets, or lack a frame
 abbrev pub is_run : Command → Bool
@@ -174,6 +209,8 @@ is_run (command.Sim g o) = true
 is_run (command.Gen n) = false
 is_run (command.Big n) = false
 is_run command.Replay = true
+is_run command.Race = false
+is_run command.Cost = false
 
 abbrev pub is_judge : Command → Bool
 is_judge command.Check = false
@@ -181,6 +218,8 @@ is_judge (command.Sim g o) = false
 is_judge (command.Gen n) = false
 is_judge (command.Big n) = false
 is_judge command.Replay = true
+is_judge command.Race = true
+is_judge command.Cost = true
 
 -- the statuses that a command can end with
 abbrev pub may_end : Command → Status → Bool

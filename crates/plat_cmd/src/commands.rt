@@ -7,15 +7,21 @@ ghost use Rattle.plat_cmd.specs.Promises.{IsBadWords, Promises};
 ghost use Rattle.plat_cmd.specs.declared.words.Command.TheVariants as commands;
 
 use crate::checks::print;
+use crate::costs::costed;
 use crate::generated::{print_nth, sum_nth};
+use crate::judgings::read_judged;
 use crate::outcomes::{Outcome, stop_status, without_run};
-use crate::readings::{read_history_text, read_machine};
-use crate::replays::replay_history;
+use crate::races::raced;
+use crate::readings::read_machine;
+use crate::replays::reported;
 use crate::simulations::simulate;
 use crate::traces::trace;
 use crate::words::{Command, Grain, Output, WordsFault, read_words};
-use plat_base::Status;
+use plat_base::{Config, Status};
+use plat_cost::Placer;
 use plat_io::{Sink, Source};
+use plat_race::Racer;
+use plat_report::Tally;
 use std::alloc::Global;
 
 /// `check`: reads a machine text, and writes its canonical text.
@@ -54,9 +60,32 @@ pub fn sim<S: Source, K: Sink>(
 pub fn replay<S: Source, K: Sink>(alloc: Global, source: &mut S, sink: &mut K) -> Outcome
     ensures { Promises commands.Replay S.Source K.Sink source.old source.new sink.old sink.new result }
 {
-    match read_history_text(alloc, source) {
-        Ok(history) => replay_history(alloc, history, sink),
-        Err(stop) => without_run(alloc, stop_status(stop)),
+    match read_judged(alloc, source, |cfg: &Config| Tally::new(alloc, cfg)) {
+        Ok(judged) => reported(judged, sink),
+        Err(status) => without_run(alloc, status),
+    }
+}
+
+/// `race`: reads a history text, judges it, and writes the numbers of the first two items that race, or that none do. HistoryBad
+/// names the first item that breaks a rule, and then nothing is written. Where none does, the status is Done, whatever the ends.
+pub fn race<S: Source, K: Sink>(alloc: Global, source: &mut S, sink: &mut K) -> Outcome
+    ensures { Promises commands.Race S.Source K.Sink source.old source.new sink.old sink.new result }
+{
+    match read_judged(alloc, source, |cfg: &Config| Racer::new(alloc, cfg)) {
+        Ok(judged) => raced(alloc, judged, sink),
+        Err(status) => without_run(alloc, status),
+    }
+}
+
+/// `cost`: reads a history text, judges it, and writes what its pages cost, and what they would cost with a single copy that moves
+/// best. HistoryBad names the first item that breaks a rule, and then nothing is written. Where none does, the status is Done,
+/// whatever the ends.
+pub fn cost<S: Source, K: Sink>(alloc: Global, source: &mut S, sink: &mut K) -> Outcome
+    ensures { Promises commands.Cost S.Source K.Sink source.old source.new sink.old sink.new result }
+{
+    match read_judged(alloc, source, |cfg: &Config| Placer::new(alloc, cfg)) {
+        Ok(judged) => costed(alloc, judged, sink),
+        Err(status) => without_run(alloc, status),
     }
 }
 
@@ -80,6 +109,8 @@ pub fn platinum<S: Source, K: Sink>(
         Ok(Command::Check) => check(alloc, source, sink),
         Ok(Command::Sim { grain, output }) => sim(alloc, grain, output, source, sink),
         Ok(Command::Replay) => replay(alloc, source, sink),
+        Ok(Command::Race) => race(alloc, source, sink),
+        Ok(Command::Cost) => cost(alloc, source, sink),
         Ok(Command::Gen(n)) => print_nth(alloc, n, sink),
         Ok(Command::Big(n)) => sum_nth(alloc, n, sink),
         Err(WordsFault::BadWords) => without_run(alloc, Status::BadWords),

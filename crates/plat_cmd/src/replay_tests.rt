@@ -29,7 +29,7 @@ halt
 end
 ";
 
-const HISTORY: &[u8] = b"history 1
+pub const HISTORY: &[u8] = b"history 1
 platinum 1
 nodes 2
 frames 4

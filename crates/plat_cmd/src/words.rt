@@ -21,12 +21,15 @@ pub enum Output {
     Trace,
 }
 
-/// A command: `check`, `sim` with a grain and an output, `replay`, or `gen` or `big` with the number of a generated machine.
+/// A command: `check`, `sim` with a grain and an output, `replay`, `race`, `cost`, or `gen` or `big` with the number of a
+/// generated machine.
 #[derive(Clone, Copy, Debug, PartialEq, Eq)]
 pub enum Command {
     Check,
     Sim { grain: Grain, output: Output },
     Replay,
+    Race,
+    Cost,
     Gen(u32),
     Big(u32),
 }
@@ -84,6 +87,10 @@ fn command_of(words: &[&str]) -> Result<Command, WordsFault>
         })
     } else if are_words(words, &["replay"]) {
         Ok(Command::Replay)
+    } else if are_words(words, &["race"]) {
+        Ok(Command::Race)
+    } else if are_words(words, &["cost"]) {
+        Ok(Command::Cost)
     } else {
         numbered(words)
     }

@@ -1,5 +1,9 @@
 pub mod PlanLaws
+pub mod BestPlanLaws
 pub mod DistanceLaws
 pub mod RestLaws
 pub mod BoundLaws
 pub mod CostLaws
+pub mod PageLemmas
+mod TriedRows
+pub mod TriedLemmas

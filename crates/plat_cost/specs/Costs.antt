@@ -1,5 +1,5 @@
 -- what a page really cost: its accesses, by the distance of the copy that they went to, and the copies that were made of it
-use Rattle.std.specs.Prelude.{◌≡◌, ℕ, ◌*◌, ◌==◌, nat_lt, ◌&&◌, ◌||◌, not, if◌then◌else◌, Bool, true, false, List, length, sum_by, Option, Some, None, All}
+use Rattle.std.specs.Prelude.{◌≡◌, ℕ, ◌*◌, ◌==◌, nat_lt, ◌&&◌, ◌||◌, not, ◌<◌, ◌≤◌, if◌then◌else◌, Bool, true, false, List, length, sum_by, Option, Some, None, All}
 use Rattle.std.specs.List.{filter_map}
 use Rattle.plat_base.specs.Machine.{Machine}
 use Rattle.plat_base.specs.Pages.{distance}
@@ -56,3 +56,8 @@ can_cost m page (item.Switch s) = true
 
 abbrev pub CanCost : Machine → ℕ → List Item → Type 0
 CanCost m page items = All (λ i. can_cost m page i ≡ true) items
+
+-- what a placement of each page of the machine needs: costs of its items, and no more accesses than turns
+pub record CanPlace (m : Machine) (items : List Item) : Type 0 where
+  pub costs : (page : ℕ) → page < m.pages → CanCost m page items
+  pub few : (page : ℕ) → page < m.pages → length (actors_on items page) ≤ m.nodes * m.budget

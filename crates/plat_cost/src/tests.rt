@@ -4,11 +4,12 @@ ghost use Rattle.plat_base.specs.Seen.{machine};
 ghost use Rattle.plat_cost.specs.Costs.{actors_on, can_cost, CanCost};
 ghost use Rattle.plat_cost.specs.Tried.{tried};
 
-use crate::{Placed, Placer, check_bound};
+use crate::{Placed, Placer, check_bound, print_costs};
 use plat_base::{
     Access, Action, Cause, Change, Config, Copies, Dir, Frame, GuestText, Item, Kind, List,
     OutOfMemory, Plan, PolicyKind, Removed, State,
 };
+use plat_io::QuietSink;
 use std::alloc::Global;
 use std::test::Fail;
 
@@ -128,6 +129,24 @@ fn accesses(items: &[Item]) -> usize
     count
 }
 
+// Six accesses of node 0 and then six of node 1: one move pays.
+fn phases() -> [Item; 12] {
+    [
+        store(0, 0),
+        store(0, 0),
+        store(0, 0),
+        store(0, 0),
+        store(0, 0),
+        store(0, 0),
+        store(1, 0),
+        store(1, 0),
+        store(1, 0),
+        store(1, 0),
+        store(1, 0),
+        store(1, 0),
+    ]
+}
+
 fn placed(accesses: u32, actual: u64, least: u64, moves: u32) -> Placed {
     Placed {
         accesses,
@@ -163,21 +182,7 @@ fn places_a_page(rt: HostRuntime) -> Result<(), Fail> {
         change(0, Action::Collapse),
         store(0, 0),
     ];
-    // six accesses of node 0 and then six of node 1: one move pays
-    let phases = [
-        store(0, 0),
-        store(0, 0),
-        store(0, 0),
-        store(0, 0),
-        store(0, 0),
-        store(0, 0),
-        store(1, 0),
-        store(1, 0),
-        store(1, 0),
-        store(1, 0),
-        store(1, 0),
-        store(1, 0),
-    ];
+    let phases = phases();
     let pages = [
         (
             frozen.as_slice(),
@@ -207,6 +212,29 @@ fn places_a_page(rt: HostRuntime) -> Result<(), Fail> {
             "{items:?}"
         );
     }
+    Ok(())
+}
+
+#[test]
+#[tactic(auto, using(crate::proofs::TriedLemmas::tried_place))]
+fn writes_the_costs(rt: HostRuntime) -> Result<(), Fail> {
+    let alloc = rt.alloc();
+    let cfg = two_nodes(alloc)?;
+    let mut placer = Placer::new(alloc, &cfg)?;
+    let mut sink = QuietSink::new(alloc, 256)?;
+    let items = phases();
+    let costs = can_cost_all(&cfg, &items);
+    assert!(rt; costs);
+    let count = accesses(&items);
+    assert!(rt; count < 16);
+    let written = print_costs(&cfg, &items, &mut placer, &mut sink);
+    assert!(rt; written.is_ok());
+    let expected = "platinum cost 1\n\
+        page 0 accesses 12 actual 6 least 4 moves 1\n\
+        from 1 at 0\n\
+        from 7 at 1\n\
+        total actual 6 least 4\n";
+    assert_eq!(rt; sink.bytes(), expected.as_bytes());
     Ok(())
 }
 

@@ -27,9 +27,10 @@ pub fn may_decide<P: Policy>(
     is_dir(cfg, dir) && fits_cause(cfg, policy, dir, last, now, node, cause, got)
 }
 
-/// Whether the machine can have this directory.
+/// Whether the machine can have this directory: its copies are frames of the machine, as many as its state says, and an
+/// empty page is not frozen.
 #[tactic(auto, using(crate::proofs::Walks::rising))]
-fn is_dir(cfg: &Config, dir: &Dir) -> bool
+pub fn is_dir(cfg: &Config, dir: &Dir) -> bool
     ensures { result ≡ is_dir (machine cfg.now) dir.now }
 {
     let count = dir.copies.count();

@@ -7,7 +7,7 @@ mod distances;
 mod placements;
 mod rows;
 
-pub use conditions::may_decide;
+pub use conditions::{is_dir, may_decide};
 pub use decisions::decide;
 pub use distances::{distance, nearest};
 pub use placements::{Place, Platinum, Replicate};

@@ -11,11 +11,9 @@ use Rattle.plat_base.specs.Pages.{numbers}
 use Rattle.plat_base.specs.Flat.{flat_value}
 use Rattle.plat_base.specs.Report.{word_lines_of, page_lines}
 use Rattle.plat_base.specs.Rules.{bad_rule, bad_at, bad_after, bad_or, bad_ends, first_bad, first_rule, unless, is_ordered_access, is_granted, is_legal}
-use Rattle.plat_base.specs.declared.frames.Dir.{Dir}
 use Rattle.plat_base.specs.declared.items.Item.{Item}
 use Rattle.plat_base.specs.declared.items.Item.TheVariants as item
 use Rattle.plat_base.specs.declared.endings.Ended.{Ended}
-use Rattle.plat_base.specs.declared.policies.Verdict.{Verdict}
 use Rattle.plat_base.specs.declared.statuses.Rule.{Rule}
 use Rattle.plat_base.specs.declared.statuses.Bad.{Bad}
 use Rattle.plat_flat.specs.FlatSeen.{FlatSeen, IsFlatOf, is_legal_item, place}

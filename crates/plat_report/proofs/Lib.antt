@@ -3,5 +3,7 @@ pub mod CountLemmas
 pub mod FlatLemmas
 pub mod Printing
 pub mod RunLemmas
+pub mod SilentLemmas
+pub mod SumLemmas
 pub mod TriedLemmas
 pub mod WritingLemmas

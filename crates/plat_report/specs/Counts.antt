@@ -7,6 +7,7 @@ use Rattle.plat_base.specs.declared.items.Item.{Item}
 use Rattle.plat_report.specs.declared.counts.AccessCounts.{AccessCounts}
 use Rattle.plat_report.specs.declared.counts.ChangeCounts.{ChangeCounts}
 use Rattle.plat_report.specs.declared.counts.AppliedCounts.{AppliedCounts}
+use Rattle.plat_report.specs.declared.totals.Totals.{Totals}
 
 -- the largest u32, below which a count can rise
 abbrev pub most : ℕ
@@ -95,3 +96,15 @@ with_applied counts i = record {
 pub record AppliedRoom (counts : AppliedCounts) : Type 0 where
   pub at_interrupt : counts.at_interrupt < most
   pub at_activation : counts.at_activation < most
+
+-- ---- the whole history
+
+abbrev pub totals_of : List Item → Totals
+totals_of items = record { changes = change_counts items; applied = applied_counts items }
+
+abbrev pub with_total : Totals → Item → Totals
+with_total totals i = record { changes = with_change totals.changes i; applied = with_applied totals.applied i }
+
+pub record TotalRoom (totals : Totals) : Type 0 where
+  pub changes : ChangeRoom totals.changes
+  pub applied : AppliedRoom totals.applied

@@ -1,9 +1,8 @@
 //! The cache of translations that a processor would have: hits and misses, by its own items.
-ghost use Rattle.plat_base.specs.declared.limits.TheConstants.{MOST_ITEMS};
-ghost use Rattle.std.specs.Prelude.{◌≡◌, ◌≤◌, ◌<◌, length, map};
+ghost use Rattle.std.specs.Prelude.{◌≡◌, ◌<◌, map};
 ghost use Rattle.plat_base.specs.Pages.{page_of};
 ghost use Rattle.plat_base.specs.Seen.{machine};
-ghost use Rattle.plat_base.specs.Cache.{cache_of, cache_after, serves_access, without_entry, without_page};
+ghost use Rattle.plat_base.specs.Cache.{cache_start, cache_after, serves_access, without_entry, without_page};
 ghost use Rattle.plat_report.specs.Caches.{with_access};
 ghost use Rattle.plat_report.specs.Counts.{most};
 
@@ -32,7 +31,7 @@ impl Model for Place {
 const NO_PLACES: [Option<Place>; 8] = [None; 8];
 
 /// A processor's cache after some items. Contracts see its eight places and its counts.
-#[derive(Debug, Drop)]
+#[derive(Clone, Copy, Debug)]
 pub(crate) struct CacheCounts {
     places: [Option<Place>; 8],
     hits: u32,
@@ -45,6 +44,8 @@ impl Model for CacheCounts {
     ghost Value = { Cache };
 
     ghost view = { λ it. record { places = it.places; hits = it.hits; misses = it.misses } };
+
+    ghost inverse = { λ c. record { places = c.places; hits = c.hits; misses = c.misses } };
 }
 
 /// Whether a place serves an access of an entry.
@@ -106,20 +107,15 @@ fn drop_page(cfg: &Config, places: &mut [Option<Place>], page: u32)
 }
 
 impl CacheCounts {
-    /// The cache of processor `q` after these items.
-    pub(crate) fn of(cfg: &Config, q: u32, items: &[Item]) -> CacheCounts
-        requires { length items.now ≤ MOST_ITEMS }
-        ensures { result ≡ cache_of (machine cfg.now) items.now q }
+    /// The cache after no items.
+    pub(crate) fn empty() -> CacheCounts
+        ensures { result ≡ cache_start }
     {
-        let mut cache = CacheCounts {
+        CacheCounts {
             places: NO_PLACES,
             hits: 0,
             misses: 0,
-        };
-        for item in items {
-            cache.take_in(cfg, q, item);
         }
-        cache
     }
 
     pub(crate) fn hits(&self) -> u32
@@ -134,7 +130,8 @@ impl CacheCounts {
         self.misses
     }
 
-    fn take_in(&mut self, cfg: &Config, q: u32, item: &Item)
+    /// Takes an item in, if it is one of processor `q`.
+    pub(crate) fn take_in(&mut self, cfg: &Config, q: u32, item: &Item)
         requires hits { self.old.hits < most }
         requires misses { self.old.misses < most }
         ensures { self.new ≡ cache_after (machine cfg.now) q self.old item.now }

@@ -1,6 +1,5 @@
 //! How many accesses, changes and applied messages of each kind a history has.
-ghost use Rattle.plat_base.specs.declared.limits.TheConstants.{MOST_ITEMS};
-ghost use Rattle.std.specs.Prelude.{◌≡◌, ◌≤◌, length};
+ghost use Rattle.std.specs.Prelude.{◌≡◌, ℕ, []};
 ghost use Rattle.plat_report.specs.Counts.{access_counts, change_counts, applied_counts, with_access, with_change, with_applied, AccessRoom, ChangeRoom, AppliedRoom};
 
 use plat_base::{Action, Change, Item, Kind, Moment};
@@ -36,26 +35,21 @@ pub(crate) struct AppliedCounts {
 }
 
 impl AccessCounts {
-    /// The counts of processor `q`'s accesses among these items.
-    #[tactic(auto, using(crate::proofs::CountLemmas::access_counts_more))]
-    pub(crate) fn of(q: u32, items: &[Item]) -> AccessCounts
-        requires { length items.now ≤ MOST_ITEMS }
-        ensures { result ≡ access_counts q items.now }
+    /// The counts of no items.
+    pub(crate) fn none() -> AccessCounts
+        ensures { (q : ℕ) → result ≡ access_counts q [] }
     {
-        let mut counts = AccessCounts {
+        AccessCounts {
             loads: 0,
             stores: 0,
             adds: 0,
             local: 0,
             remote: 0,
-        };
-        for item in items {
-            counts.count(q, item);
         }
-        counts
     }
 
-    fn count(&mut self, q: u32, item: &Item)
+    /// Counts an item, if it is an access of processor `q`.
+    pub(crate) fn count(&mut self, q: u32, item: &Item)
         requires { AccessRoom self.old }
         ensures { self.new ≡ with_access q self.old item.now }
     {
@@ -79,13 +73,11 @@ impl AccessCounts {
 }
 
 impl ChangeCounts {
-    /// The counts of the changes among these items.
-    #[tactic(auto, using(crate::proofs::CountLemmas::change_counts_more))]
-    pub(crate) fn of(items: &[Item]) -> ChangeCounts
-        requires { length items.now ≤ MOST_ITEMS }
-        ensures { result ≡ change_counts items.now }
+    /// The counts of no items.
+    pub(crate) fn none() -> ChangeCounts
+        ensures { result ≡ change_counts [] }
     {
-        let mut counts = ChangeCounts {
+        ChangeCounts {
             fills: 0,
             local_maps: 0,
             remote_maps: 0,
@@ -94,14 +86,11 @@ impl ChangeCounts {
             collapses: 0,
             thaws: 0,
             freezes: 0,
-        };
-        for item in items {
-            counts.count(item);
         }
-        counts
     }
 
-    fn count(&mut self, item: &Item)
+    /// Counts an item, if it is a change.
+    pub(crate) fn count(&mut self, item: &Item)
         requires { ChangeRoom self.old }
         ensures { self.new ≡ with_change self.old item.now }
     {
@@ -124,23 +113,18 @@ impl ChangeCounts {
 }
 
 impl AppliedCounts {
-    /// The counts of the applied messages among these items.
-    #[tactic(auto, using(crate::proofs::CountLemmas::applied_counts_more))]
-    pub(crate) fn of(items: &[Item]) -> AppliedCounts
-        requires { length items.now ≤ MOST_ITEMS }
-        ensures { result ≡ applied_counts items.now }
+    /// The counts of no items.
+    pub(crate) fn none() -> AppliedCounts
+        ensures { result ≡ applied_counts [] }
     {
-        let mut counts = AppliedCounts {
+        AppliedCounts {
             at_interrupt: 0,
             at_activation: 0,
-        };
-        for item in items {
-            counts.count(item);
         }
-        counts
     }
 
-    fn count(&mut self, item: &Item)
+    /// Counts an item, if it is an applied message.
+    pub(crate) fn count(&mut self, item: &Item)
         requires { AppliedRoom self.old }
         ensures { self.new ≡ with_applied self.old item.now }
     {

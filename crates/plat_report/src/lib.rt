@@ -1,6 +1,7 @@
 //! The report of a history with its ends, written to a sink line by line, and the summary of a generated run.
 #![tactic(auto)]
 
+mod actors;
 mod caches;
 mod counts;
 mod lines;
@@ -8,9 +9,11 @@ mod prints;
 mod processors;
 mod reports;
 mod runs;
+mod sums;
 mod tallies;
 #[cfg(test)]
 mod tests;
+mod totals;
 mod turns;
 mod words;
 

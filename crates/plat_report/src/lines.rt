@@ -1,24 +1,21 @@
 //! The lines of counts: of each processor's accesses and cache, and of the whole history.
-ghost use Rattle.plat_base.specs.declared.limits.TheConstants.{MOST_ITEMS};
 ghost use Rattle.std.specs.Prelude.{◌≤◌, ◌∷◌, [], length};
 ghost use Rattle.std.specs.List.{flat_map};
-ghost use Rattle.plat_base.specs.Seen.{machine};
 ghost use Rattle.plat_base.specs.Pages.{numbers};
-ghost use Rattle.plat_base.specs.Report.{access_line, cache_line, count_lines, changes_line, applied_line, total_lines};
 ghost use Rattle.plat_io.specs.Lines.{AddsLines};
+ghost use Rattle.plat_report.specs.Lines.{access_words, cache_words, count_words, counts_words, changes_words, applied_words, total_words};
 
+use crate::actors::ActorCounts;
 use crate::caches::CacheCounts;
 use crate::counts::{AccessCounts, AppliedCounts, ChangeCounts};
-use plat_base::{Config, Item};
+use crate::totals::Totals;
 use plat_io::lines::{Word, write_line};
 use plat_io::{Sink, WriteFault};
 
 /// Writes the counts of a processor's accesses.
-fn write_accesses<K: Sink>(items: &[Item], q: u32, sink: &mut K) -> Result<(), WriteFault>
-    requires { length items.now ≤ MOST_ITEMS }
-    ensures { AddsLines K.Sink sink.old sink.new result (access_line items.now q ∷ []) }
+fn write_accesses<K: Sink>(q: u32, counts: &AccessCounts, sink: &mut K) -> Result<(), WriteFault>
+    ensures { AddsLines K.Sink sink.old sink.new result (access_words q counts.now ∷ []) }
 {
-    let counts = AccessCounts::of(q, items);
     write_line(
         sink,
         &[
@@ -39,16 +36,9 @@ fn write_accesses<K: Sink>(items: &[Item], q: u32, sink: &mut K) -> Result<(), W
 }
 
 /// Writes the hits and misses of a processor's cache.
-fn write_cache<K: Sink>(
-    cfg: &Config,
-    items: &[Item],
-    q: u32,
-    sink: &mut K,
-) -> Result<(), WriteFault>
-    requires { length items.now ≤ MOST_ITEMS }
-    ensures { AddsLines K.Sink sink.old sink.new result (cache_line (machine cfg.now) items.now q ∷ []) }
+fn write_cache<K: Sink>(q: u32, cache: &CacheCounts, sink: &mut K) -> Result<(), WriteFault>
+    ensures { AddsLines K.Sink sink.old sink.new result (cache_words q cache.now ∷ []) }
 {
-    let cache = CacheCounts::of(cfg, q, items);
     write_line(
         sink,
         &[
@@ -64,40 +54,33 @@ fn write_cache<K: Sink>(
 
 /// Writes the counts of a processor's accesses, and of its cache.
 #[tactic(auto, using(plat_io::proofs::LineLemmas::lines))]
-fn write_count<K: Sink>(
-    cfg: &Config,
-    items: &[Item],
-    q: u32,
-    sink: &mut K,
-) -> Result<(), WriteFault>
-    requires { length items.now ≤ MOST_ITEMS }
-    ensures { AddsLines K.Sink sink.old sink.new result (count_lines (machine cfg.now) items.now q) }
+fn write_count<K: Sink>(q: u32, counts: &ActorCounts, sink: &mut K) -> Result<(), WriteFault>
+    ensures { AddsLines K.Sink sink.old sink.new result (count_words q counts.now) }
 {
-    write_accesses(items, q, sink)?;
-    write_cache(cfg, items, q, sink)
+    write_accesses(q, &counts.accesses, sink)?;
+    write_cache(q, &counts.cache, sink)
 }
 
-/// Writes the counts of each processor.
+/// Writes the counts of each of so many processors.
 pub(crate) fn write_counts<K: Sink>(
-    cfg: &Config,
-    items: &[Item],
+    nodes: u32,
+    counts: &[ActorCounts],
     sink: &mut K,
 ) -> Result<(), WriteFault>
-    requires { length items.now ≤ MOST_ITEMS }
-    ensures { AddsLines K.Sink sink.old sink.new result (flat_map (count_lines (machine cfg.now) items.now) (numbers cfg.now.nodes)) }
+    requires { nodes ≤ length counts.now }
+    ensures { AddsLines K.Sink sink.old sink.new result (flat_map (counts_words counts.now) (numbers nodes)) }
 {
-    for q in 0..cfg.nodes {
-        write_count(cfg, items, q, sink)?;
+    for q in 0..nodes {
+        let at = q as usize;
+        write_count(q, &counts[at], sink)?;
     }
     Ok(())
 }
 
 /// Writes the counts of the changes.
-fn write_changes<K: Sink>(items: &[Item], sink: &mut K) -> Result<(), WriteFault>
-    requires { length items.now ≤ MOST_ITEMS }
-    ensures { AddsLines K.Sink sink.old sink.new result (changes_line items.now ∷ []) }
+fn write_changes<K: Sink>(counts: &ChangeCounts, sink: &mut K) -> Result<(), WriteFault>
+    ensures { AddsLines K.Sink sink.old sink.new result (changes_words counts.now ∷ []) }
 {
-    let counts = ChangeCounts::of(items);
     write_line(
         sink,
         &[
@@ -123,11 +106,9 @@ fn write_changes<K: Sink>(items: &[Item], sink: &mut K) -> Result<(), WriteFault
 }
 
 /// Writes the counts of the applied messages.
-fn write_applied<K: Sink>(items: &[Item], sink: &mut K) -> Result<(), WriteFault>
-    requires { length items.now ≤ MOST_ITEMS }
-    ensures { AddsLines K.Sink sink.old sink.new result (applied_line items.now ∷ []) }
+fn write_applied<K: Sink>(counts: &AppliedCounts, sink: &mut K) -> Result<(), WriteFault>
+    ensures { AddsLines K.Sink sink.old sink.new result (applied_words counts.now ∷ []) }
 {
-    let counts = AppliedCounts::of(items);
     write_line(
         sink,
         &[
@@ -140,16 +121,16 @@ fn write_applied<K: Sink>(items: &[Item], sink: &mut K) -> Result<(), WriteFault
     )
 }
 
-/// Writes the counts of the whole history.
+/// Writes the counts of the whole history, and how many items it has.
 #[tactic(auto, using(plat_io::proofs::LineLemmas::lines))]
-pub(crate) fn write_totals<K: Sink>(items: &[Item], sink: &mut K) -> Result<(), WriteFault>
-    requires { length items.now ≤ MOST_ITEMS }
-    ensures { AddsLines K.Sink sink.old sink.new result (total_lines items.now) }
+pub(crate) fn write_totals<K: Sink>(
+    totals: &Totals,
+    items: u32,
+    sink: &mut K,
+) -> Result<(), WriteFault>
+    ensures { AddsLines K.Sink sink.old sink.new result (total_words totals.now items) }
 {
-    write_changes(items, sink)?;
-    write_applied(items, sink)?;
-    write_line(
-        sink,
-        &[Word::Text(b"items"), Word::Number(items.len() as u32)],
-    )
+    write_changes(&totals.changes, sink)?;
+    write_applied(&totals.applied, sink)?;
+    write_line(sink, &[Word::Text(b"items"), Word::Number(items)])
 }

@@ -1,10 +1,12 @@
 //! The memory that a report needs.
-ghost use Rattle.std.specs.Prelude.{◌≡◌, [], IfOk};
-ghost use Rattle.plat_base.specs.Machine.{Machine};
+ghost use Rattle.plat_base.specs.declared.limits.TheConstants.{MOST_ITEMS};
+ghost use Rattle.std.specs.Prelude.{◌≤◌, [], length, IfOk};
 ghost use Rattle.plat_base.specs.Seen.{machine};
 ghost use Rattle.plat_flat.specs.FlatSeen.{IsFlatOf};
 ghost use Rattle.plat_report.specs.Flats.{AreLegal};
+ghost use Rattle.plat_report.specs.Sums.{ShowsSums};
 
+use crate::sums::Sums;
 use plat_base::{Config, Item, OutOfMemory};
 use plat_flat::Flat;
 use std::alloc::Global;
@@ -35,14 +37,17 @@ impl Tally {
         })
     }
 
-    /// The flat memory after these items.
-    pub(crate) fn after(self, items: &[Item]) -> Flat
-        ensures { (m : Machine) → IsFlatOf m [] self → AreLegal m items.now → IsFlatOf m items.now result }
+    /// The sums of these items, in one pass over them. It takes no memory.
+    pub(crate) fn after(self, cfg: &Config, items: &[Item]) -> Sums
+        requires made { IsFlatOf (machine cfg.now) [] self }
+        requires few { length items.now ≤ MOST_ITEMS }
+        requires legal { AreLegal (machine cfg.now) items.now }
+        ensures { ShowsSums (machine cfg.now) items.now result }
     {
-        let mut flat = self.flat;
+        let mut sums = Sums::new(self.flat);
         for item in items {
-            flat.apply(item);
+            sums.take_in(cfg, item);
         }
-        flat
+        sums
     }
 }

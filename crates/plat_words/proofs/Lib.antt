@@ -9,3 +9,4 @@ pub mod Masks
 pub mod Locks
 pub mod Numbers
 pub mod Pools
+pub mod Found

@@ -138,7 +138,7 @@ granted-mask m n a h k is = record {
 
 -- ---- a message is applied: the own bits are cleared
 
-parts_word-below : (r i s : ℕ) → AreParts r i s → parts_word r i s < 2 ^ 24
+pub parts_word-below : (r i s : ℕ) → AreParts r i s → parts_word r i s < 2 ^ 24
 parts_word-below r i s p = let a = p.references in let b = p.invalidates in let c = p.restricts in omega arith
 
 own_parts : (a : ℕ) → a < 8 → AreParts (2 ^ a) (2 ^ a) (2 ^ a)
@@ -215,7 +215,7 @@ applied-mask m n a Restrict h is = cleared-mask m n (bits_applied Restrict a) (p
 
 -- ---- a post: the tests of `mask_word` are read above, and the mask stays one of the machine
 
-mask_word-below : (f g h : ℕ → Bool) → mask_word f g h < 2 ^ 24
+pub mask_word-below : (f g h : ℕ → Bool) → mask_word f g h < 2 ^ 24
 unfolding mask_word
 mask_word-below f g h = bits_above f 0 8 (bit_fields g ++ bit_fields h) 16 (bits_above g 0 8 (bit_fields h) 8 (bits_between-below h 0 8))
 

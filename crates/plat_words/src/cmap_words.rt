@@ -2,7 +2,7 @@
 ghost use Rattle.std.specs.Prelude.{◌<◌, ◌^◌};
 ghost use Rattle.plat_events.specs.Words.{most_nodes};
 
-use crate::bits::bits;
+use crate::parts::bits;
 use plat_base::limits::MODULES;
 
 /// The mask of an entry (Cox and Fowler 1989), with one bit for each processor, that of processor 0 being the lowest: who

@@ -1,5 +1,5 @@
 //! Words of frames.
-use crate::bits::bits;
+use crate::parts::bits;
 
 /// A word of a frame: its value, and how often it was written.
 #[derive(Clone, Copy, Debug, PartialEq, Eq)]

@@ -4,7 +4,7 @@ ghost use Rattle.plat_base.specs.Copies.{AreCopies};
 ghost use Rattle.plat_base.specs.Alike.{state_number};
 ghost use Rattle.plat_events.specs.Words.{state_numbered, packed, copy_fields, copies_read};
 
-use crate::bits::{bit, bits};
+use crate::parts::{bit, bits};
 use plat_base::limits::MODULES;
 use plat_base::{Copies, Frame, State};
 

@@ -2,7 +2,7 @@
 ghost use Rattle.std.specs.Prelude.{◌<◌, ◌^◌};
 ghost use Rattle.plat_events.specs.Words.{last_number};
 
-use crate::bits::bits;
+use crate::parts::bits;
 
 /// The stamp of a page: the tick of its last invalidation, if any, which is below 4,294,967,295, and its number of changes.
 #[derive(Clone, Copy, Debug, PartialEq, Eq)]

@@ -1,7 +1,6 @@
-use Rattle.std.proofs.Common.{◌≡◌, ◌<◌, List, ℕ, Bor, length, sym, arith}
+use Rattle.std.proofs.Common.{arith}
 use Rattle.std.proofs.lemmas.Grind.{common_steps}
 use Rattle.std.proofs.lemmas.List.Folds.{list_all-map, list_all_at}
-use Rattle.plat_cmd.specs.Arguments.{is_plain}
 use Rattle.plat_cmd.proofs.arguments.all_plain.Goals as goal
 
 -- src/arguments.rt:28:13

@@ -1,11 +1,10 @@
-use Rattle.std.proofs.Common.{Ok, ap, refl, ◌∙◌, ⊎_elim}
-use Rattle.std.specs.Prelude.{Result, Err, IfOk, IfErr, ◌≡◌, ◌⊎◌}
+use Rattle.std.proofs.Common.{Ok, ap, ◌∙◌}
 use Rattle.plat_cmd.specs.Arguments.{texts_of}
 use Rattle.plat_cmd.specs.Commands.{read_of}
 use Rattle.plat_cmd.specs.Promises.{Promises}
 use Rattle.plat_cmd.specs.declared.words.Command.{Command}
 use Rattle.plat_cmd.specs.declared.words.Command.TheVariants as command
-use Rattle.plat_cmd.proofs.PromiseLemmas.{named_by, not_bad, never_bad_words, printed_or_not, summed_or_not, wanting}
+use Rattle.plat_cmd.proofs.PromiseLemmas.{named_by, not_bad, never_bad_words, printed_or_not, summed_or_not}
 use Rattle.plat_cmd.proofs.commands.platinum.Goals as goal
 
 pub returns-in-Ok-Check-clause-named : goal.returns-in-Ok-Check-clause-named
@@ -84,3 +83,37 @@ returns-in-Ok-Replay-clause-bad_words g c =
 
 pub returns-in-Ok-Replay-clause-unread : goal.returns-in-Ok-Replay-clause-unread
 returns-in-Ok-Replay-clause-unread g c = λ bad. absurd (never_bad_words c.replay.ensures bad)
+
+pub returns-in-Ok-Race-clause-named : goal.returns-in-Ok-Race-clause-named
+returns-in-Ok-Race-clause-named g c =
+    named_by c.read_words.result (read_of (texts_of c.args.words.now)) command.Race
+    (c.in-Ok-Race.is ∙ ap (λ (d : Command). Ok d) c.in-Ok-Race.field-0-is)
+    (λ d. Promises d g.S.Source g.K.Sink c.args.source.now c.race.new.source c.args.sink.now c.race.new.sink c.race.result)
+    c.read_words.ensures.command c.read_words.ensures.bad_words
+    c.race.ensures
+
+pub returns-in-Ok-Race-clause-bad_words : goal.returns-in-Ok-Race-clause-bad_words
+returns-in-Ok-Race-clause-bad_words g c =
+    not_bad c.read_words.result (read_of (texts_of c.args.words.now)) command.Race
+    (c.in-Ok-Race.is ∙ ap (λ (d : Command). Ok d) c.in-Ok-Race.field-0-is) _
+    c.read_words.ensures.command c.read_words.ensures.bad_words
+
+pub returns-in-Ok-Race-clause-unread : goal.returns-in-Ok-Race-clause-unread
+returns-in-Ok-Race-clause-unread g c = λ bad. absurd (never_bad_words c.race.ensures bad)
+
+pub returns-in-Ok-Cost-clause-named : goal.returns-in-Ok-Cost-clause-named
+returns-in-Ok-Cost-clause-named g c =
+    named_by c.read_words.result (read_of (texts_of c.args.words.now)) command.Cost
+    (c.in-Ok-Cost.is ∙ ap (λ (d : Command). Ok d) c.in-Ok-Cost.field-0-is)
+    (λ d. Promises d g.S.Source g.K.Sink c.args.source.now c.cost.new.source c.args.sink.now c.cost.new.sink c.cost.result)
+    c.read_words.ensures.command c.read_words.ensures.bad_words
+    c.cost.ensures
+
+pub returns-in-Ok-Cost-clause-bad_words : goal.returns-in-Ok-Cost-clause-bad_words
+returns-in-Ok-Cost-clause-bad_words g c =
+    not_bad c.read_words.result (read_of (texts_of c.args.words.now)) command.Cost
+    (c.in-Ok-Cost.is ∙ ap (λ (d : Command). Ok d) c.in-Ok-Cost.field-0-is) _
+    c.read_words.ensures.command c.read_words.ensures.bad_words
+
+pub returns-in-Ok-Cost-clause-unread : goal.returns-in-Ok-Cost-clause-unread
+returns-in-Ok-Cost-clause-unread g c = λ bad. absurd (never_bad_words c.cost.ensures bad)

@@ -2,7 +2,6 @@ use Rattle.std.proofs.Common.{false, refl, ap, sym, ◌∙◌, List}
 use Rattle.plat_base.specs.Rules.{Good}
 use Rattle.plat_base.specs.Report.{report}
 use Rattle.plat_base.specs.Statuses.{status_of}
-use Rattle.plat_base.specs.Seen.{machine}
 use Rattle.plat_base.specs.Verdicts.{policy_answer}
 use Rattle.plat_base.specs.declared.endings.Ended.{Ended}
 use Rattle.plat_base.specs.declared.statuses.Status.{Status}
@@ -10,19 +9,19 @@ use Rattle.plat_io.specs.Adds.{Adds}
 use Rattle.plat_history.specs.Shown.{seen}
 use Rattle.plat_cmd.specs.Steps.{status_after}
 use Rattle.plat_cmd.proofs.EndingLemmas.{written_by, ended_by, no_write_fault}
-use Rattle.plat_cmd.proofs.ReplayLemmas.{good_is_coherent}
+use Rattle.plat_cmd.proofs.GoodLemmas.{good_is_coherent}
 use Rattle.plat_cmd.proofs.RunLemmas.{same_items}
 use Rattle.plat_cmd.proofs.replays.reported.Goals as goal
 
 pub report-written-requires-clause-good : goal.report-written-requires-clause-good
 report-written-requires-clause-good g c =
-    let h = seen c.args.history in
+    let h = seen c.args.judged.history in
     same_items (λ is es. Good h.machine (policy_answer h.machine.policy) is es) c.as_slice.result.now h.items c.as_slice-2.result.now h.ends
     c.as_slice.ensures c.as_slice-2.ensures c.requires.good
 
 pub returns : goal.returns
 returns g c =
-    let h = seen c.args.history in
+    let h = seen c.args.judged.history in
     let complete = status_of h.ends false in
     let now_is =
     c.status_after.ensures

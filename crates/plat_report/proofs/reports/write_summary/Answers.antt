@@ -31,4 +31,4 @@ returns g c =
     ((codes "big" ∷ decimal c.args.n ∷ []) ∷ []) _ c.in_ok-write_line.ensures
     (adds_more g.K.Sink c.write_line.new.sink c.write_ends.new.sink c.write_totals.new.sink c.write_totals.result
     (flat_map (λ q. processor_line c.args.ends.now q ∷ []) (numbers c.args.cfg.now.nodes)) (total_lines c.args.items.now)
-    c.in_ok-write_ends.ensures c.write_totals.ensures))
+    c.in_ok-write_ends.ensures (rw c.of.ensures at c.write_totals.ensures)))

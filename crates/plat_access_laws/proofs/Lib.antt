@@ -1,0 +1,4 @@
+pub mod WriteCountLaws
+pub mod ModifiedLaws
+pub mod WriteFlatLaws
+pub mod ExchangeLaws

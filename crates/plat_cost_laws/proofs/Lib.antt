@@ -1,0 +1,4 @@
+pub mod OperationLaws
+pub mod CountLaws
+pub mod ChangeCosts
+pub mod PlaceLaws

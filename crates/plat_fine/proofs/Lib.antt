@@ -1,0 +1,4 @@
+pub mod EventLemmas
+pub mod CrewLemmas
+pub mod RunLemmas
+pub mod TriedLemmas

@@ -1,0 +1,4 @@
+pub mod Phased
+pub mod QuietPhases
+pub mod StartPhases
+pub mod Handling

@@ -1,0 +1,12 @@
+pub mod ModuleLemmas
+pub mod FaultLemmas
+pub mod GoingLemmas
+pub mod CourseLemmas
+pub mod LockLemmas
+pub mod StandingLemmas
+pub mod StageLemmas
+pub mod DecisionLemmas
+pub mod SettledLemmas
+pub mod TakenLemmas
+pub mod HandlerLemmas
+pub mod PlaceLaws

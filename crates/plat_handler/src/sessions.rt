@@ -1,0 +1,138 @@
+//! What each operation of a handler leads to: the lock, a phase of the session, or its shootdown.
+ghost use Rattle.std.specs.Prelude.{◌≡◌, ◌<◌, [], Option, Some, None};
+ghost use Rattle.plat_base.specs.Seen.{machine};
+ghost use Rattle.plat_events.specs.Events.{is_followed};
+ghost use Rattle.plat_shoot.specs.ShootSeen.{ShootSeen};
+ghost use Rattle.plat_handler.specs.Decided.{Decides, RunsOn, RemovesSome};
+ghost use Rattle.plat_handler.specs.Courses.{stage_told, Shoots};
+ghost use Rattle.plat_handler.specs.Phases.{session_seen, phase_seen, then_seen, stage_seen, posts_in, ShootsWell, fault_seen};
+ghost use Rattle.plat_handler.specs.Stages.{Locks, Runs};
+ghost use Rattle.plat_handler.specs.Settled.{stage_with, IsOf, IsShootOf, EntersOn, ThenShoots, own_of_shot};
+
+use crate::courses::{after, shot_over};
+use crate::operations::operation;
+use crate::phases::{Course, Lock, Phase, Stage, Then};
+use plat_base::{Config, Dir, Op, WordName};
+use plat_shoot::{Need, Own, Shoot};
+use plat_words::{DirWord, is_word};
+
+/// The lock found `old`: a set bit sends a processor to poll, and the daemon to lock again; else the session begins.
+pub fn locked(cfg: &Config, lock: &mut Lock, old: u64) -> Stage
+    ensures actor { lock.new.actor ≡ lock.old.actor }
+    ensures tick { lock.new.tick ≡ lock.old.tick }
+    ensures fault { lock.new.fault ≡ lock.old.fault }
+    ensures shoots { Shoots (machine cfg.now) lock.new None (stage_seen lock.new None result) }
+    ensures well { (shoot : Option ShootSeen) → ShootsWell shoot result }
+    ensures stage { stage_seen lock.new None result
+        ≡ stage_told (machine cfg.now) lock.old old (Locks (fault_seen lock.old.fault)) }
+{
+    if !is_word(cfg, WordName::Dir(lock.fault.page), old) {
+        return Stage::Locking;
+    }
+    let Some(found) = DirWord::decode(old) else {
+        unreachable!()
+    };
+    if found.locked {
+        return if lock.actor == cfg.nodes {
+            Stage::Locking
+        } else {
+            Stage::Relocking
+        };
+    }
+    lock.dir = Dir {
+        state: found.state,
+        frozen: found.frozen,
+        copies: found.copies,
+    };
+    if lock.actor == cfg.nodes && !found.frozen {
+        Stage::Running(Phase::Returning)
+    } else {
+        Stage::Running(Phase::Stamping)
+    }
+}
+
+/// Where the session stands with its shootdown: in it, or behind it.
+fn settled(cfg: &Config, lock: &Lock, course: Course, shoot: &Shoot) -> Stage
+    requires decides { Decides (machine cfg.now) lock.now course }
+    requires shoots { IsOf (machine cfg.now) lock.now course shoot.now }
+    ensures shoots { Shoots (machine cfg.now) lock.now (Some shoot.now)
+        (stage_seen lock.now (Some shoot.now) result) }
+    ensures stage { stage_seen lock.now (Some shoot.now) result
+        ≡ stage_with (machine cfg.now) lock.now course shoot.now.shoot }
+    ensures well { ShootsWell (Some shoot.now) result }
+{
+    match shoot.next(cfg) {
+        Need::Finished => Stage::Running(shot_over(cfg, lock, course)),
+        _ => Stage::Shooting(course),
+    }
+}
+
+/// The next phase, or a new shootdown.
+fn entered(cfg: &Config, lock: &Lock, shoot: &mut Option<Shoot>, next: Then) -> Stage
+    requires fits { EntersOn (machine cfg.now) lock.now next }
+    requires shoots { ThenShoots (machine cfg.now) lock.now shoot.old next }
+    ensures shoots { Shoots (machine cfg.now) lock.now shoot.new (stage_seen lock.now shoot.new result) }
+    ensures stage { stage_seen lock.now shoot.new result
+        ≡ Runs (session_seen lock.now (then_seen (machine cfg.now) lock.now (posts_in shoot.old) next)) }
+    ensures well { ShootsWell shoot.new result }
+{
+    match next {
+        Then::Runs(phase) => Stage::Running(phase),
+        Then::Shoots(course, removed) => {
+            let new = Shoot::start(cfg, lock.actor, lock.fault.page, removed);
+            let stage = settled(cfg, lock, course, &new);
+            *shoot = Some(new);
+            stage
+        }
+    }
+}
+
+/// The operation of a phase found `old`.
+pub fn ran(cfg: &Config, lock: &Lock, shoot: &mut Option<Shoot>, phase: Phase, old: u64) -> Stage
+    requires fits { RunsOn (machine cfg.now) lock.now phase }
+    requires tick { lock.now.tick < 4294967295 }
+    requires shoots { Shoots (machine cfg.now) lock.now shoot.old
+        (stage_seen lock.now shoot.old (Stage.Running phase)) }
+    ensures shoots { Shoots (machine cfg.now) lock.now shoot.new (stage_seen lock.now shoot.new result) }
+    ensures stage { stage_seen lock.now shoot.new result
+        ≡ stage_told (machine cfg.now) lock.now old (stage_seen lock.now shoot.old (Stage.Running phase)) }
+    ensures well { ShootsWell shoot.new result }
+{
+    let (name, op) = operation(cfg, lock, phase);
+    if !is_followed(cfg, name, op, old) {
+        return Stage::Running(phase);
+    }
+    match phase {
+        Phase::Returning => Stage::Returned,
+        Phase::Unlocking(course) => Stage::Changed(course),
+        _ => entered(cfg, lock, shoot, after(cfg, lock, phase, old)),
+    }
+}
+
+/// Whether the operation tells a number that its word may be. A store tells nothing, and is always followed.
+fn is_followed(cfg: &Config, name: WordName, op: Op, old: u64) -> bool
+    ensures { result ≡ is_followed (machine cfg.now) (Some (name, op)) old }
+{
+    matches!(op, Op::Store(_)) || is_word(cfg, name, old)
+}
+
+/// The operation of the shootdown found `old`.
+pub fn shot(
+    cfg: &Config,
+    lock: &Lock,
+    shoot: &mut Option<Shoot>,
+    course: Course,
+    old: u64,
+) -> (Stage, Own)
+    requires decides { Decides (machine cfg.now) lock.now course }
+    requires shoots { IsShootOf (machine cfg.now) lock.now course shoot.old }
+    ensures shoots { Shoots (machine cfg.now) lock.now shoot.new (stage_seen lock.now shoot.new result.0) }
+    ensures stage { stage_seen lock.now shoot.new result.0
+        ≡ stage_told (machine cfg.now) lock.now old (stage_seen lock.now shoot.old (Stage.Shooting course)) }
+    ensures own { result.1 ≡ own_of_shot (machine cfg.now) old shoot.old }
+    ensures well { ShootsWell shoot.new result.0 }
+{
+    let Some(running) = shoot else { unreachable!() };
+    let own = running.after(cfg, old);
+    (settled(cfg, lock, course, running), own)
+}

@@ -1,0 +1,88 @@
+-- the guest of a history is the guest of its actor's part of it
+use Rattle.std.proofs.Common.{◌≡◌, ℕ, Bool, true, false, List, [], ◌∷◌, None, refl, ap, sym, subst, filter, fold, length}
+use Rattle.std.specs.Prelude.{◌==◌, Option}
+use Rattle.std.specs.List.{filter_map, cons_option}
+use Rattle.plat_base.specs.Machine.{Machine}
+use Rattle.plat_base.specs.Pages.{program_of}
+use Rattle.plat_base.specs.GuestRun.{guest_run, GoesOn}
+use Rattle.plat_base.specs.Done.{value_of, values_of, done_of, operations_of}
+use Rattle.plat_base.specs.Held.{held, held_after, active, active_after}
+use Rattle.plat_base.specs.declared.items.Translation.{Translation}
+use Rattle.plat_base.specs.declared.items.Item.{Item}
+use Rattle.plat_base.specs.declared.items.Item.TheVariants as item
+use Rattle.plat_laws.specs.Guests.{IsGuest}
+use Rattle.plat_events.specs.Shown.{actor_of, items_by}
+
+filter_map-one :
+    {A B : Type 0} (f : A → Option B) (p : A → Bool) → ((x : A) → p x ≡ false → f x ≡ None) → (x : A) (xs : List A) (b : Bool)
+    → p x ≡ b → filter_map f (filter p xs) ≡ filter_map f xs → filter_map f (filter p (x ∷ xs)) ≡ filter_map f (x ∷ xs)
+filter_map-one f p h x xs true e k = rw e (ap (cons_option (f x)) k)
+filter_map-one f p h x xs false e k = rw (e, h x e) k
+
+filter_map-filter :
+    {A B : Type 0} (f : A → Option B) (p : A → Bool) → ((x : A) → p x ≡ false → f x ≡ None) → (xs : List A)
+    → filter_map f (filter p xs) ≡ filter_map f xs
+filter_map-filter f p h [] = refl
+filter_map-filter f p h (x ∷ xs) = filter_map-one f p h x xs (p x) refl (filter_map-filter f p h xs)
+
+fold-one :
+    {A S : Type 0} (f : S → A → S) (p : A → Bool) → ((s : S) (x : A) → p x ≡ false → f s x ≡ s) → (s : S) (x : A) (xs : List A)
+    (b : Bool) → p x ≡ b → ((s : S) → fold f s (filter p xs) ≡ fold f s xs) → fold f s (filter p (x ∷ xs)) ≡ fold f s (x ∷ xs)
+fold-one f p h s x xs true e k = rw e (k (f s x))
+fold-one f p h s x xs false e k = rw (e, h s x e) (k s)
+
+fold-filter :
+    {A S : Type 0} (f : S → A → S) (p : A → Bool) → ((s : S) (x : A) → p x ≡ false → f s x ≡ s) → (s : S) (xs : List A)
+    → fold f s (filter p xs) ≡ fold f s xs
+fold-filter f p h s [] = refl
+fold-filter f p h s (x ∷ xs) = fold-one f p h s x xs (p x) refl (λ y. fold-filter f p h y xs)
+
+value_of-other : (q : ℕ) (i : Item) → (actor_of i == q) ≡ false → value_of q i ≡ None
+value_of-other q (item.Access a) h = rw h
+value_of-other q (item.Change c) h = refl
+value_of-other q (item.Applied x) h = refl
+value_of-other q (item.Switch s) h = refl
+
+done_of-other : (q : ℕ) (i : Item) → (actor_of i == q) ≡ false → done_of q i ≡ None
+done_of-other q (item.Access a) h = rw h
+done_of-other q (item.Change c) h = refl
+done_of-other q (item.Applied x) h = refl
+done_of-other q (item.Switch s) h = rw h
+
+active_after-other : (q space : ℕ) (i : Item) → (actor_of i == q) ≡ false → active_after q space i ≡ space
+active_after-other q space (item.Access a) h = refl
+active_after-other q space (item.Change c) h = refl
+active_after-other q space (item.Applied x) h = refl
+active_after-other q space (item.Switch s) h = rw h
+
+held_after-other : (m : Machine) (q e : ℕ) (t : Option Translation) (i : Item) → (actor_of i == q) ≡ false → held_after m q e t i ≡ t
+held_after-other m q e t (item.Access a) h = refl
+held_after-other m q e t (item.Change c) h = rw h
+held_after-other m q e t (item.Applied x) h = rw h
+held_after-other m q e t (item.Switch s) h = refl
+
+pub values_of-items_by : (q : ℕ) (items : List Item) → values_of q (items_by q items) ≡ values_of q items
+values_of-items_by q items = filter_map-filter (value_of q) (λ i. actor_of i == q) (value_of-other q) items
+
+pub operations_of-items_by : (q : ℕ) (items : List Item) → operations_of q (items_by q items) ≡ operations_of q items
+operations_of-items_by q items = filter_map-filter (done_of q) (λ i. actor_of i == q) (done_of-other q) items
+
+pub active-items_by : (m : Machine) (q : ℕ) (items : List Item) → active m (items_by q items) q ≡ active m items q
+active-items_by m q items =
+    fold-filter (active_after q) (λ i. actor_of i == q) (active_after-other q) (program_of m q).space items
+
+pub held-items_by : (m : Machine) (q e : ℕ) (items : List Item) → held m (items_by q items) q e ≡ held m items q e
+held-items_by m q e items =
+    fold-filter (held_after m q e) (λ i. actor_of i == q) (held_after-other m q e) None items
+
+-- where the journal is the actor's part of the history, its guest is that of the history
+pub IsGuest-items_by : (m : Machine) (items : List Item) (t q : ℕ) → IsGuest m (items_by q items) t q → IsGuest m items t q
+IsGuest-items_by m items t q g =
+    let vs = values_of-items_by q items in
+    record {
+      made = subst (λ v. (guest_run m q v t).turns ≡ t) vs g.made;
+      goes = subst (λ v. (guest_run m q v t).outcome ≡ GoesOn) vs g.goes;
+      used = subst (λ v. (guest_run m q v t).used ≡ length v) vs g.used;
+      done = rw (sym vs, sym (operations_of-items_by q items)) g.done;
+      space = rw (sym vs, sym (active-items_by m q items)) g.space;
+    }

@@ -1,0 +1,11 @@
+pub mod StandLemmas
+pub mod StepLemmas
+pub mod CountLemmas
+pub mod KeyLemmas
+pub mod HeadLemmas
+pub mod PlaceLemmas
+pub mod UnderWay
+pub mod TotalLemmas
+pub mod StartLemmas
+pub mod RoomLemmas
+pub mod TriedLemmas

@@ -1,0 +1,127 @@
+-- what has to be known before an item of a good history is placed: no count passes its bound
+use Rattle.std.specs.Prelude.{◌≡◌, ◌⊎◌, ℕ, suc, ◌+◌, ◌-◌, ◌<◌, ◌≤◌, nat_lt, if◌then◌else◌, Bool, true, false, List, [], ◌∷◌, ◌++◌, length, Option, Some, None}
+use Rattle.std.proofs.Common.{ap, sym, inl, inr, arith, subst}
+use Rattle.std.specs.List.{fold}
+use Rattle.std.proofs.lemmas.Bool.{cases_Bool, and_parts}
+use Rattle.std.proofs.lemmas.Bool.Decides.{nat_tests}
+use Rattle.std.proofs.lemmas.List.Sums.{count_by-le-length}
+use Rattle.std.proofs.lemmas.Nat.{mul-add-lt}
+use Rattle.plat_base.specs.Machine.{Machine}
+use Rattle.plat_base.specs.Flat.{is_write, writes_word, flat_writes}
+use Rattle.plat_base.specs.Directories.{change_of, seq_after, seq_of}
+use Rattle.plat_base.specs.declared.limits.TheConstants.{MOST_ITEMS}
+use Rattle.plat_base.specs.declared.items.Access.{Access}
+use Rattle.plat_base.specs.declared.items.Change.{Change}
+use Rattle.plat_base.specs.declared.items.Item.{Item}
+use Rattle.plat_base.specs.declared.items.Item.TheVariants as item
+use Rattle.plat_merge.specs.declared.counts.WordCount.{WordCount}
+use Rattle.plat_merge.specs.declared.counts.PageCount.{PageCount}
+use Rattle.plat_merge.specs.declared.counts.Counts.{Counts}
+use Rattle.plat_merge.specs.declared.totals.Totals.{Totals}
+use Rattle.plat_merge.specs.Standing.{is_load_up_to, is_use_below, is_write_below}
+use Rattle.plat_merge.specs.Counts.{cell_of, word_at, page_at, is_within, word_after, page_changed, ShowsCounts}
+use Rattle.plat_merge.specs.Placing.{total_at, loads_found, CanAccess, CanChange, CanPlace, words_placed, pages_placed}
+use Rattle.plat_merge.proofs.CountLemmas.{word-set_same, page-set_same}
+
+-- ---- counts are at most the number of items
+
+pub writes-most : (page word n : ℕ) (xs : List Item) → fold (λ k i. if writes_word page word i then k + 1 else k) n xs ≤ n + length xs
+writes-most page word n [] = omega arith
+writes-most page word n (x ∷ xs) = by (writes_word page word x) (writes-most page word (n + 1) xs) (writes-most page word n xs)
+  where
+    by :
+        (b : Bool) → fold (λ k i. if writes_word page word i then k + 1 else k) (n + 1) xs ≤ n + 1 + length xs
+        → fold (λ k i. if writes_word page word i then k + 1 else k) n xs ≤ n + length xs
+        → fold (λ k i. if writes_word page word i then k + 1 else k) (if b then n + 1 else n) xs ≤ n + suc (length xs)
+    by true h k = omega (arith, h)
+    by false h k = omega (arith, k)
+
+pub seq-most : (page n : ℕ) (xs : List Item) → fold (λ k i. seq_after k (change_of page i)) n xs ≤ n + length xs
+seq-most page n [] = omega arith
+seq-most page n (x ∷ xs) = by (change_of page x) (seq-most page (n + 1) xs) (seq-most page n xs)
+  where
+    by :
+        (o : Option Change) → fold (λ k i. seq_after k (change_of page i)) (n + 1) xs ≤ n + 1 + length xs
+        → fold (λ k i. seq_after k (change_of page i)) n xs ≤ n + length xs
+        → fold (λ k i. seq_after k (change_of page i)) (seq_after n o) xs ≤ n + suc (length xs)
+    by (Some c) h k = omega (arith, h)
+    by None h k = omega (arith, k)
+
+below : (a b : ℕ) → nat_lt a b ≡ true → a < b
+below a b h = grind (arith, nat_tests)
+
+abbrev after_of : Bool → ℕ → WordCount → WordCount
+after_of b n x = if b then record { writes = x.writes + 1; loads = x.loads + n } else record { writes = x.writes; loads = x.loads - 1 }
+
+-- ---- an item
+
+module _ (m : Machine) (c : Counts) (t : Totals) (placed left rest : List Item) (same : c.page_words ≡ m.words) (shows : ShowsCounts m placed left m.words c.words.items c.pages.items) (few : length placed + 1 + length rest ≤ MOST_ITEMS) (size : length left ≡ 1 + length rest) where
+  can-access :
+      (a : Access) → ShowsCounts m (placed ++ item.Access a ∷ []) rest m.words (words_placed m.words t c.words.items (item.Access a)) (pages_placed t c.pages.items (item.Access a))
+      → a.page < m.pages → a.word < m.words → CanAccess c t a
+  can-access a next p w = record {
+    page = omega (arith, p, shows.all_pages);
+    word = omega (arith, w, same);
+    few = subst (λ n. (word_at c.words.items (cell_of n a.page a.word)).writes < MOST_ITEMS) (sym same) writes_few;
+    all = subst (λ n. (word_at c.words.items (cell_of n a.page a.word)).loads + loads_found n t a ≤ MOST_ITEMS) (sym same) (by (cases_Bool (is_write a.kind)));
+  }
+    where
+      inside : cell_of m.words a.page a.word < length c.words.items
+      inside = let l = mul-add-lt a.page m.words a.word m.pages p w in let all = shows.all_words in grind (arith)
+
+      writes_few : (word_at c.words.items (cell_of m.words a.page a.word)).writes < MOST_ITEMS
+      writes_few = omega (arith, shows.writes a.page a.word p w, writes-most a.page a.word 0 placed, few)
+
+      then-loads : (word_after a (loads_found m.words t a) (word_at c.words.items (cell_of m.words a.page a.word))).loads ≤ length rest
+      then-loads =
+          let here = ap (λ (x : WordCount). x.loads) (word-set_same c.words.items (cell_of m.words a.page a.word) (word_after a (loads_found m.words t a) (word_at c.words.items (cell_of m.words a.page a.word))) inside) in
+          omega (arith, here, next.loads a.page a.word p w, count_by-le-length (is_load_up_to a.page a.word (flat_writes (placed ++ item.Access a ∷ []) a.page a.word)) rest)
+
+      now-loads : (word_at c.words.items (cell_of m.words a.page a.word)).loads ≤ length left
+      now-loads = omega (arith, shows.loads a.page a.word p w, count_by-le-length (is_load_up_to a.page a.word (flat_writes placed a.page a.word)) left)
+
+      by :
+          (is_write a.kind ≡ true) ⊎ (is_write a.kind ≡ false)
+          → (word_at c.words.items (cell_of m.words a.page a.word)).loads + loads_found m.words t a ≤ MOST_ITEMS
+      by (inl writes) =
+          let sum : (word_after a (loads_found m.words t a) (word_at c.words.items (cell_of m.words a.page a.word))).loads ≡ (word_at c.words.items (cell_of m.words a.page a.word)).loads + loads_found m.words t a =
+          ap (λ (b : Bool). (after_of b (loads_found m.words t a) (word_at c.words.items (cell_of m.words a.page a.word))).loads) writes in
+          omega (arith, sum, then-loads, few)
+      by (inr load) =
+          let none : loads_found m.words t a ≡ 0 = ap (λ (b : Bool). if b then total_at t.loads.items (cell_of m.words a.page a.word) a.version else 0) load in
+          omega (arith, none, now-loads, few, size)
+
+  can-change :
+      (d : Change) → ShowsCounts m (placed ++ item.Change d ∷ []) rest m.words (words_placed m.words t c.words.items (item.Change d)) (pages_placed t c.pages.items (item.Change d))
+      → d.page < m.pages → CanChange c t d
+  can-change d next p = record {
+    page = inside;
+    few = omega (arith, shows.changes d.page p, seq-most d.page 0 placed, few);
+    all_uses =
+        let here = ap (λ (x : PageCount). x.uses) set in
+        omega (arith, here, next.uses d.page p, count_by-le-length (is_use_below d.page (seq_of (placed ++ item.Change d ∷ []) d.page)) rest, few);
+    all_writes =
+        let here = ap (λ (x : PageCount). x.writes) set in
+        omega (arith, here, next.writing d.page p, count_by-le-length (is_write_below d.page (seq_of (placed ++ item.Change d ∷ []) d.page)) rest, few);
+  }
+    where
+      inside : d.page < length c.pages.items
+      inside = omega (arith, p, shows.all_pages)
+
+      set :
+          page_at (pages_placed t c.pages.items (item.Change d)) d.page
+          ≡ page_changed (total_at t.uses.items d.page d.seq) (total_at t.writes.items d.page d.seq) (page_at c.pages.items d.page)
+      set = page-set_same c.pages.items d.page (page_changed (total_at t.uses.items d.page d.seq) (total_at t.writes.items d.page d.seq) (page_at c.pages.items d.page)) inside
+
+pub can-place :
+    (m : Machine) (c : Counts) (t : Totals) (placed left rest : List Item) (i : Item) → c.page_words ≡ m.words
+    → ShowsCounts m placed left m.words c.words.items c.pages.items
+    → ShowsCounts m (placed ++ i ∷ []) rest m.words (words_placed m.words t c.words.items i) (pages_placed t c.pages.items i)
+    → is_within m.pages m.words i ≡ true → length placed + 1 + length rest ≤ MOST_ITEMS → length left ≡ 1 + length rest → CanPlace c t i
+can-place m c t placed left rest (item.Access a) same shows next within few size =
+    let both = and_parts (nat_lt a.page m.pages) (nat_lt a.word m.words) within in
+    can-access m c t placed left rest same shows few size a next (below a.page m.pages both.0) (below a.word m.words both.1)
+can-place m c t placed left rest (item.Change d) same shows next within few size =
+    can-change m c t placed left rest same shows few size d next (below d.page m.pages within)
+can-place m c t placed left rest (item.Applied x) same shows next within few size = tt
+can-place m c t placed left rest (item.Switch s) same shows next within few size = tt

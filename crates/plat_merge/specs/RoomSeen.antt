@@ -1,0 +1,31 @@
+-- the room of a merge, and what is asked of journals
+use Rattle.std.specs.Prelude.{◌≡◌, ℕ, List}
+use Rattle.std.specs.List.{sum}
+use Rattle.plat_base.specs.Verdicts.{Answer}
+use Rattle.plat_base.specs.Machine.{Machine}
+use Rattle.plat_base.specs.Rooms.{journal_rooms}
+use Rattle.plat_base.specs.Rules.{Good}
+use Rattle.plat_base.specs.declared.endings.Ended.{Ended}
+use Rattle.plat_base.specs.declared.items.Item.{Item}
+use Rattle.plat_events.specs.Merges.{Journals}
+use Rattle.plat_merge_laws.specs.Merging.{HasJournals}
+
+-- a room as contracts see it: for so many pages of so many words, and for so many items
+pub record RoomSeen : Type 0 where
+  pub pages : ℕ
+  pub words : ℕ
+  pub items : ℕ
+
+-- it was made for this machine
+pub record IsRoomFor (m : Machine) (room : RoomSeen) : Type 0 where
+  pub pages : room.pages ≡ m.pages
+  pub words : room.words ≡ m.words
+  pub items : room.items ≡ sum (journal_rooms m)
+
+-- some history with these journals is good, with some ends
+pub record HaveGoodHistory (m : Machine) (journals : Journals) : Type 0 where
+  pub answer : Answer
+  pub items : List Item
+  pub ends : List Ended
+  pub has : HasJournals items journals
+  pub good : Good m answer items ends

@@ -1,0 +1,4 @@
+pub mod SpaceEntries
+pub mod WantLemmas
+pub mod WithinLemmas
+pub mod StepLemmas

@@ -1,0 +1,105 @@
+//! Which place follows a poll, a scan's look, and the end of a turn.
+ghost use Rattle.std.specs.Prelude.{◌≡◌, ◌+◌, ◌<◌, ◌≤◌, if◌then◌else◌};
+ghost use Rattle.plat_base.specs.Seen.{machine};
+ghost use Rattle.plat_base.specs.declared.items.Message.TheVariants as message;
+ghost use Rattle.plat_base.specs.declared.items.Moment.TheVariants as moment;
+ghost use Rattle.plat_events.specs.Privates as events;
+ghost use Rattle.plat_events.specs.Scans.{go_on, scan_from, turn_over};
+ghost use Rattle.plat_events.specs.Words.{has_bit, has_invalidate, has_restrict};
+ghost use Rattle.plat_proc.specs.Places.{onward_seen, place_seen};
+
+use crate::entries::count_of_space;
+use crate::messages::{has_invalidate, has_restrict};
+use crate::places::{Onward, Place};
+use plat_base::{Config, End, Message, Moment};
+use plat_words::bit;
+
+/// A processor that has made its budget is spent, and another begins its next turn.
+pub fn turn_over(cfg: &Config, turns: u32) -> Place
+    ensures { place_seen result ≡ turn_over (machine cfg.now) turns }
+{
+    if turns == cfg.budget {
+        Place::Leaving(End::Spent)
+    } else {
+        Place::Polling(Onward::NewTurn)
+    }
+}
+
+/// What follows a poll and its scan.
+fn go_on(cfg: &Config, turns: u32, onward: Onward) -> Place
+    ensures { place_seen result ≡ go_on (machine cfg.now) turns (onward_seen onward) }
+{
+    match onward {
+        Onward::NewTurn => Place::Ticking,
+        Onward::TurnOver => turn_over(cfg, turns),
+    }
+}
+
+/// The next entry of the space, or what follows the scan.
+pub fn scan_from(
+    cfg: &Config,
+    turns: u32,
+    space: u32,
+    i: u32,
+    moment: Moment,
+    onward: Onward,
+) -> Place
+    ensures { place_seen result ≡ scan_from (machine cfg.now) turns space i moment (onward_seen onward) }
+{
+    if i < count_of_space(cfg, space) {
+        Place::Looking { i, moment, onward }
+    } else {
+        go_on(cfg, turns, onward)
+    }
+}
+
+/// What follows a poll that found these interrupts: a scan, where one is for the active space.
+pub fn polled(cfg: &Config, turns: u32, space: u32, onward: Onward, interrupts: u64) -> Place
+    requires { space < 8 }
+    ensures { place_seen result
+        ≡ (if has_bit interrupts space then scan_from (machine cfg.now) turns space 0 moment.Interrupt (onward_seen onward)
+        else go_on (machine cfg.now) turns (onward_seen onward)) }
+{
+    if bit(interrupts, space) {
+        scan_from(cfg, turns, space, 0, Moment::Interrupt, onward)
+    } else {
+        go_on(cfg, turns, onward)
+    }
+}
+
+/// What follows a look at a mask: an invalidate goes before a restrict, and without either the scan goes on.
+pub fn looked(
+    cfg: &Config,
+    q: u32,
+    turns: u32,
+    space: u32,
+    i: u32,
+    moment: Moment,
+    onward: Onward,
+    mask: u64,
+) -> Place
+    requires processor { q < 8 }
+    requires below { i < 512 }
+    ensures { place_seen result
+        ≡ (if has_invalidate mask q then events.Applying i message.Invalidate moment (onward_seen onward)
+        else if has_restrict mask q then events.Applying i message.Restrict moment (onward_seen onward)
+        else scan_from (machine cfg.now) turns space (i + 1) moment (onward_seen onward)) }
+{
+    if has_invalidate(mask, q) {
+        Place::Applying {
+            i,
+            message: Message::Invalidate,
+            moment,
+            onward,
+        }
+    } else if has_restrict(mask, q) {
+        Place::Applying {
+            i,
+            message: Message::Restrict,
+            moment,
+            onward,
+        }
+    } else {
+        scan_from(cfg, turns, space, i + 1, moment, onward)
+    }
+}

@@ -1,0 +1,3 @@
+pub mod OnePage
+pub mod LastPhases
+pub mod Handling

@@ -1,0 +1,4 @@
+pub mod EntryLemmas
+pub mod TargetLemmas
+pub mod PostLemmas
+pub mod FitLemmas

@@ -1,0 +1,4 @@
+pub mod Sought
+pub mod Steps
+pub mod ShootSeen
+pub mod Parts

@@ -1,0 +1,11 @@
+pub mod ShotPhaseLaws
+pub mod ShotMovedLaws
+pub mod ShotViewLaws
+pub mod TargetLaws
+pub mod ShotPairLaws
+pub mod ShotStepLaws
+pub mod ShotKindLaws
+pub mod ShootingLaws
+pub mod PostViewLaws
+pub mod PostPairLaws
+pub mod PostLaws
