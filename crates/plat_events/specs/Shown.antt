@@ -1,4 +1,4 @@
--- the invariant of the shared state: what is to hold at the start and after every event of a live actor; that it does is not proved yet
+-- the invariant of the shared state: what holds at the start and after every event of a live actor
 use Rattle.std.specs.Prelude.{◌≡◌, ◌≢◌, ℕ, ◌+◌, ◌<◌, ◌≤◌, ◌==◌, not, if◌then◌else◌, Bool, false, List, [], ◌∷◌, length, sum_by, filter, count_by, Option, Some, None, is_some, IsTrue, take}
 use Rattle.std.specs.List.{fold}
 use Rattle.plat_base.specs.Verdicts.{Answer}
