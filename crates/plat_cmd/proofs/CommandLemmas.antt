@@ -14,7 +14,7 @@ use Rattle.std.specs.Str.Parse.{digits_value}
 use Rattle.plat_base.specs.declared.faults.Why.TheVariants.{TooLarge, NotNumber}
 use Rattle.plat_cmd.specs.declared.words.Command.{Command}
 use Rattle.plat_cmd.specs.declared.words.Command.TheVariants.{Check, Sim, Replay, Race, Cost, Gen, Big}
-use Rattle.plat_cmd.specs.declared.words.Grain.TheVariants.{Coarse}
+use Rattle.plat_cmd.specs.declared.words.Grain.TheVariants.{Coarse, Fine}
 use Rattle.plat_cmd.specs.declared.words.Output.TheVariants.{Report, Trace}
 use Rattle.plat_cmd.specs.declared.words.WordsFault.{WordsFault}
 use Rattle.plat_cmd.specs.declared.words.WordsFault.TheVariants.{BadWords}
@@ -86,9 +86,11 @@ command-plain words c h =
     or_words words (codes "check" ∷ []) Check c _ refl
     (or_words words (codes "sim" ∷ codes "coarse" ∷ []) (Sim Coarse Report) c _ refl
     (or_words words (codes "sim" ∷ codes "coarse" ∷ codes "trace" ∷ []) (Sim Coarse Trace) c _ refl
+    (or_words words (codes "sim" ∷ codes "fine" ∷ []) (Sim Fine Report) c _ refl
+    (or_words words (codes "sim" ∷ codes "fine" ∷ codes "trace" ∷ []) (Sim Fine Trace) c _ refl
     (or_words words (codes "replay" ∷ []) Replay c _ refl
     (or_words words (codes "race" ∷ []) Race c _ refl
-    (or_words words (codes "cost" ∷ []) Cost c _ refl (numbered-plain words c)))))) h
+    (or_words words (codes "cost" ∷ []) Cost c _ refl (numbered-plain words c)))))))) h
 
 -- words that are not plain name no command
 pub unplain : (words : List (List ℕ)) (P : Command → Type 0) → are_plain words ≡ false → IfOk (read_of words) P

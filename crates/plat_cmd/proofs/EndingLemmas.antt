@@ -1,5 +1,5 @@
 -- how commands end: the status of what was written, of a run, and of a command that stopped
-use Rattle.std.proofs.Common.{◌≡◌, ◌≢◌, ◌⊎◌, inl, inr, ℕ, suc, ◌<◌, ◌≤◌, leb, true, false, Bool, List, [], ◌∷◌, length, arith, refl, sym, ap, ◌∙◌, ⊎_elim, if◌then◌else◌}
+use Rattle.std.proofs.Common.{◌≡◌, ◌≢◌, ◌⊎◌, inl, inr, ℕ, suc, ◌<◌, ◌≤◌, leb, ◌&&◌, true, false, Bool, List, [], ◌∷◌, length, arith, refl, sym, ap, ◌∙◌, ⊎_elim, if◌then◌else◌}
 use Rattle.std.specs.Prelude.{Result, Ok, Err, IfSome, slice_index_or}
 use Rattle.std.proofs.lemmas.Bool.{cases_Bool, leb-true, leb-false, true≢false}
 use Rattle.std.specs.List.{list_any}
@@ -7,7 +7,7 @@ use Rattle.plat_base.specs.Alike.{same_end}
 use Rattle.plat_base.specs.Ends.{cut_at, ended_of}
 use Rattle.plat_base.specs.Machine.{Machine}
 use Rattle.plat_base.specs.Runs.{IsCoherentRun, GuestsEnd}
-use Rattle.plat_base.specs.Verdicts.{Answer}
+use Rattle.plat_base.specs.Verdicts.{Answer, policy_answer}
 use Rattle.plat_base.specs.Statuses.{status_of, ends_as, is_silent, refusal_of}
 use Rattle.plat_base.specs.declared.endings.End.{End}
 use Rattle.plat_base.specs.declared.endings.End.TheVariants as end
@@ -20,8 +20,10 @@ use Rattle.plat_io.specs.Adds.{Adds}
 use Rattle.plat_io.specs.declared.faults.WriteFault.{WriteFault}
 use Rattle.plat_io.specs.declared.sinks.Sink.{Ghosts}
 use Rattle.plat_base.specs.declared.statuses.Bad.{Bad}
-use Rattle.plat_cmd.specs.Works.{IsWritten, IsOrWriteFault, bad_of, IsDoneWithMemory, LacksFrames}
+use Rattle.plat_cmd.specs.Works.{ends_of, is_limited, IsWritten, IsOrWriteFault, bad_of, IsDoneWithMemory, LacksFrames, ReachesLimit}
 use Rattle.plat_cmd.specs.Steps.{status_after}
+use Rattle.plat_cmd.specs.declared.words.Grain.{Grain}
+use Rattle.plat_cmd.specs.declared.words.Grain.TheVariants as grain
 
 -- ---- writing
 
@@ -50,29 +52,40 @@ ended_by (Err e) complete now is = inr is
 
 -- ---- the status of a run
 
--- the statuses of runs: done, spent, no frames
+-- the statuses of runs: done, spent, no frames, and the limit of events
 abbrev pub is_run_status : Status → Bool
 is_run_status status.Done = true
 is_run_status (status.HistoryBad bad) = false
 is_run_status (status.Refused refused) = false
 is_run_status status.NoFrames = true
 is_run_status status.Spent = true
-is_run_status status.EventLimit = false
+is_run_status status.EventLimit = true
 is_run_status status.ReadFault = false
 is_run_status status.WriteFault = false
 is_run_status status.OutOfMemory = false
 is_run_status status.BadWords = false
 
-pub run_status : (ends : List Ended) → is_run_status (status_of ends false) ≡ true
-run_status ends = by (ends_as end.NoFrames ends) (ends_as end.Spent ends)
+pub run_status : (ends : List Ended) (limit : Bool) → is_run_status (status_of ends limit) ≡ true
+run_status ends limit = by (limit && ends_as end.Cut ends) (ends_as end.NoFrames ends) (ends_as end.Spent ends)
   where
-    by : (starved spent : Bool) → is_run_status (if starved then status.NoFrames else if spent then status.Spent else status.Done) ≡ true
-    by true spent = refl
-    by false true = refl
-    by false false = refl
+    by : (cut starved spent : Bool)
+        → is_run_status (if cut then status.EventLimit else if starved then status.NoFrames else if spent then status.Spent else status.Done) ≡ true
+    by true starved spent = refl
+    by false true spent = refl
+    by false false true = refl
+    by false false false = refl
 
-pub no_write_fault : (ends : List Ended) → status_of ends false ≢ status.WriteFault
-no_write_fault ends is = true≢false (sym (run_status ends) ∙ ap is_run_status is)
+pub no_write_fault : (ends : List Ended) (limit : Bool) → status_of ends limit ≢ status.WriteFault
+no_write_fault ends limit is = true≢false (sym (run_status ends limit) ∙ ap is_run_status is)
+
+-- a run that is not limited does not end at a limit
+pub unlimited_status : (ends : List Ended) → status_of ends false ≢ status.EventLimit
+unlimited_status ends = by (ends_as end.NoFrames ends) (ends_as end.Spent ends)
+  where
+    by : (starved spent : Bool) → (if starved then status.NoFrames else if spent then status.Spent else status.Done) ≢ status.EventLimit
+    by true spent is = cc
+    by false true is = cc
+    by false false is = cc
 
 pub silent_run : (s : Status) → is_run_status s ≡ true → is_silent s ≡ false
 silent_run status.Done h = refl
@@ -157,8 +170,24 @@ module _ (m : Machine) (answer : Answer) (items : List Item) (ends : List Ended)
       by : (q : ℕ) → q < length ends → same_end (ended_of ends q).end end.NoFrames ≡ false
       by q l = let inside : q < m.nodes = omega (arith, run.one.all_end, l) in not_starved (ended_of ends q).end (run.framed enough q inside)
 
-  pub finished_status : (now : Status) → now ≡ status_of ends false → IsDoneWithMemory now ⊎ LacksFrames m now
-  finished_status now is =
+  uncut_status : (now : Status) → now ≡ status_of ends false → IsDoneWithMemory now ⊎ LacksFrames m now
+  uncut_status now is =
       ⊎_elim (λ enough. inl (inl (is ∙ done_status (ends_as end.NoFrames ends) (ends_as end.Spent ends) (none_starved (leb-true m.pages m.frames enough)) none_spent)))
       (λ few. ⊎_elim (λ done. inl (inl (is ∙ done))) (λ starved. inr (leb-false m.pages m.frames few, is ∙ starved))
       (starved_status (ends_as end.NoFrames ends) (ends_as end.Spent ends) none_spent)) (cases_Bool (leb m.pages m.frames))
+
+  -- so is one that is limited, but where some end is cut
+  limited_status : (now : Status) → now ≡ status_of ends true
+      → IsDoneWithMemory now ⊎ LacksFrames m now ⊎ ((ends_as end.Cut ends ≡ true) × (now ≡ status.EventLimit))
+  limited_status now = by (ends_as end.Cut ends) refl
+    where
+      by : (cut : Bool) → ends_as end.Cut ends ≡ cut → now ≡ (if cut then status.EventLimit else status_of ends false)
+          → IsDoneWithMemory now ⊎ LacksFrames m now ⊎ ((ends_as end.Cut ends ≡ true) × (now ≡ status.EventLimit))
+      by true cut is = inr (inr (cut, is))
+      by false whole is = ⊎_elim (λ done. inl done) (λ few. inr (inl few)) (uncut_status now is)
+
+pub finished_status : (g : Grain) (m : Machine) (items : List Item) → IsCoherentRun m (policy_answer m.policy) items (ends_of g m) → GuestsEnd m items → (now : Status)
+    → now ≡ status_of (ends_of g m) (is_limited g) → IsDoneWithMemory now ⊎ LacksFrames m now ⊎ ReachesLimit g m now
+finished_status grain.Coarse m items run guests now is =
+    ⊎_elim (λ done. inl done) (λ few. inr (inl few)) (uncut_status m (policy_answer m.policy) items (ends_of grain.Coarse m) run guests now is)
+finished_status grain.Fine m items run guests now is = limited_status m (policy_answer m.policy) items (ends_of grain.Fine m) run guests now is

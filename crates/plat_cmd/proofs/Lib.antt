@@ -1,7 +1,9 @@
 pub mod ArgumentLemmas
 pub mod WordLemmas
 pub mod CommandLemmas
+pub mod StepLemmas
 pub mod RunLemmas
+pub mod FineRunLemmas
 pub mod ReadLemmas
 pub mod EndingLemmas
 pub mod PromiseLemmas

@@ -2,10 +2,10 @@
 use Rattle.std.proofs.Common.{◌≡◌, ◌⊎◌, inl, inr, ℕ, ◌≤◌, true, false, Bool, List, [], refl, sym, ap, subst, ◌∙◌, ⊎_elim, arith}
 use Rattle.std.specs.Prelude.{Option, None, Some, IfSome, IsSomeAnd, IfOk, IfErr, OnOk, Result, Ok, Err}
 use Rattle.plat_base.specs.Seen.{machine}
-use Rattle.plat_base.specs.Verdicts.{policy_answer}
 use Rattle.plat_base.specs.Statuses.{status_of, ends_as, is_silent, refusal_of}
 use Rattle.plat_base.specs.declared.endings.End.TheVariants as end
 use Rattle.plat_base.specs.declared.configs.Config.{Config}
+use Rattle.plat_base.specs.declared.endings.Ended.{Ended}
 use Rattle.plat_base.specs.declared.items.Item.{Item}
 use Rattle.plat_base.specs.declared.statuses.Bad.{Bad}
 use Rattle.plat_base.specs.declared.statuses.Status.{Status}
@@ -22,7 +22,7 @@ use Rattle.plat_io.specs.declared.sinks.Sink.{Ghosts}
 use Rattle.plat_io.specs.declared.sources.Source.{Ghosts as Reader}
 use Rattle.plat_gen.specs.Generated.{generated}
 use Rattle.plat_cmd.specs.Inputs.{Input, machine_text, history_text, nothing, input_of, reads_some, Told, IsToldAs, IsToldHistory, IsRead, HasRead, IfTold, IsFault}
-use Rattle.plat_cmd.specs.Works.{HasPrinted, HasSummed, HasDone, bad_of, first_bad_of, IsFirstBad, IsComplete, ends_of, is_run, is_judge, may_end}
+use Rattle.plat_cmd.specs.Works.{HasPrinted, HasSummed, HasDone, bad_of, first_bad_of, IsFirstBad, IsComplete, ends_of, is_limited, is_run, is_judge, may_reach_limit, may_end}
 use Rattle.plat_cmd.specs.Judgings.{HasFailed}
 use Rattle.plat_cmd.specs.Promises.{IsNoRefusal, IsQuiet, IsEnded, Promises}
 use Rattle.plat_cmd.specs.Steps.{IsStop, StopsAs, AcceptsAs, read_as, HasStopped, stop_status}
@@ -30,53 +30,59 @@ use Rattle.plat_cmd.specs.declared.words.Command.{Command}
 use Rattle.plat_cmd.specs.declared.words.Command.TheVariants as command
 use Rattle.plat_cmd.specs.declared.words.WordsFault.{WordsFault}
 use Rattle.plat_cmd.specs.declared.words.WordsFault.TheVariants as words
-use Rattle.plat_cmd.specs.declared.words.Grain.TheVariants as grain
 use Rattle.plat_cmd.specs.declared.outcomes.Outcome.{Outcome}
 use Rattle.plat_cmd.specs.declared.outcomes.Stop.{Stop}
 use Rattle.plat_cmd.specs.declared.outcomes.Stop.TheVariants as stop
-use Rattle.plat_cmd.proofs.EndingLemmas.{is_run_status, run_status, silent_run, told_no_refusal, told_no_bad, finished_status, done_status}
+use Rattle.plat_cmd.proofs.EndingLemmas.{is_run_status, run_status, unlimited_status, silent_run, told_no_refusal, told_no_bad, finished_status, done_status}
 
 -- ---- a command that did its work
 
-may_run : (c : Command) → is_run c ≡ true → (s : Status) → is_run_status s ≡ true → may_end c s ≡ true
-may_run c runs status.Done h = refl
-may_run c runs (status.HistoryBad bad) h = absurd cc
-may_run c runs (status.Refused refused) h = absurd cc
-may_run c runs status.NoFrames h = runs
-may_run c runs status.Spent h = runs
-may_run c runs status.EventLimit h = absurd cc
-may_run c runs status.ReadFault h = absurd cc
-may_run c runs status.WriteFault h = refl
-may_run c runs status.OutOfMemory h = refl
-may_run c runs status.BadWords h = absurd cc
+may_run : (c : Command) → is_run c ≡ true → (s : Status) → is_run_status s ≡ true → (s ≡ status.EventLimit → may_reach_limit c ≡ true) → may_end c s ≡ true
+may_run c runs status.Done h limit = refl
+may_run c runs (status.HistoryBad bad) h limit = absurd cc
+may_run c runs (status.Refused refused) h limit = absurd cc
+may_run c runs status.NoFrames h limit = runs
+may_run c runs status.Spent h limit = runs
+may_run c runs status.EventLimit h limit = limit refl
+may_run c runs status.ReadFault h limit = absurd cc
+may_run c runs status.WriteFault h limit = refl
+may_run c runs status.OutOfMemory h limit = refl
+may_run c runs status.BadWords h limit = absurd cc
+
+-- a run that is limited may reach its limit
+may_be_limited : (ends : List Ended) (limit : Bool) → status_of ends limit ≡ status.EventLimit → limit ≡ true
+may_be_limited ends true is = refl
+may_be_limited ends false is = absurd (unlimited_status ends is)
 
 module _ {K : Type 0} (sink : Ghosts K) (old new : K) (now : Status) (kept : List Item) where
   done_is_told : (c : Command) (it : Told (input_of c)) → HasDone c sink it old new now kept → is_silent now ≡ false
   done_is_told command.Check m done = ⊎_elim (λ is. ap is_silent is) (λ is. ap is_silent is) done.ended
-  done_is_told (command.Sim grain.Coarse o) m done =
-      ⊎_elim (λ is. ap is_silent is ∙ silent_run (status_of (ends_of m) false) (run_status (ends_of m))) (λ is. ap is_silent is) done.ended
+  done_is_told (command.Sim g o) m done =
+      ⊎_elim (λ is. ap is_silent is ∙ silent_run (status_of (ends_of g m) (is_limited g)) (run_status (ends_of g m) (is_limited g))) (λ is. ap is_silent is) done.ended
   done_is_told (command.Gen n) it done = ⊎_elim (λ is. ap is_silent is) (λ is. ap is_silent is) done.ended
   done_is_told (command.Big n) it done = ⊎_elim (λ is. ap is_silent is) (λ is. ap is_silent is) done.ended
   done_is_told command.Race h done = ⊎_elim (λ is. ap is_silent is) (λ is. ap is_silent is) done.ended
   done_is_told command.Cost h done = ⊎_elim (λ is. ap is_silent is) (λ is. ap is_silent is) done.ended
   done_is_told command.Replay h done =
-      ⊎_elim (λ is. ap is_silent is ∙ silent_run (status_of h.ends false) (run_status h.ends)) (λ is. ap is_silent is) done.ended
+      ⊎_elim (λ is. ap is_silent is ∙ silent_run (status_of h.ends false) (run_status h.ends false)) (λ is. ap is_silent is) done.ended
 
   done_may_end : (c : Command) (it : Told (input_of c)) → HasDone c sink it old new now kept → may_end c now ≡ true
   done_may_end command.Check m done = ⊎_elim (λ is. ap (may_end command.Check) is) (λ is. ap (may_end command.Check) is) done.ended
-  done_may_end (command.Sim grain.Coarse o) m done =
-      ⊎_elim (λ is. ap (may_end (command.Sim grain.Coarse o)) is ∙ may_run (command.Sim grain.Coarse o) refl (status_of (ends_of m) false) (run_status (ends_of m)))
-      (λ is. ap (may_end (command.Sim grain.Coarse o)) is) done.ended
+  done_may_end (command.Sim g o) m done =
+      ⊎_elim
+      (λ is. ap (may_end (command.Sim g o)) is
+      ∙ may_run (command.Sim g o) refl (status_of (ends_of g m) (is_limited g)) (run_status (ends_of g m) (is_limited g)) (may_be_limited (ends_of g m) (is_limited g)))
+      (λ is. ap (may_end (command.Sim g o)) is) done.ended
   done_may_end (command.Gen n) it done = ⊎_elim (λ is. ap (may_end (command.Gen n)) is) (λ is. ap (may_end (command.Gen n)) is) done.ended
   done_may_end (command.Big n) it done = ⊎_elim (λ is. ap (may_end (command.Big n)) is) (λ is. ap (may_end (command.Big n)) is) done.ended
   done_may_end command.Race h done = ⊎_elim (λ is. ap (may_end command.Race) is) (λ is. ap (may_end command.Race) is) done.ended
   done_may_end command.Cost h done = ⊎_elim (λ is. ap (may_end command.Cost) is) (λ is. ap (may_end command.Cost) is) done.ended
   done_may_end command.Replay h done =
-      ⊎_elim (λ is. ap (may_end command.Replay) is ∙ may_run command.Replay refl (status_of h.ends false) (run_status h.ends)) (λ is. ap (may_end command.Replay) is) done.ended
+      ⊎_elim (λ is. ap (may_end command.Replay) is ∙ may_run command.Replay refl (status_of h.ends false) (run_status h.ends false) (may_be_limited h.ends false)) (λ is. ap (may_end command.Replay) is) done.ended
 
   done_has_written : (c : Command) (it : Told (input_of c)) → HasDone c sink it old new now kept → now ≡ status.WriteFault → HasRisen (sink.faults old) (sink.faults new)
   done_has_written command.Check m done = done.written.risen
-  done_has_written (command.Sim grain.Coarse o) m done = done.written.risen
+  done_has_written (command.Sim g o) m done = done.written.risen
   done_has_written (command.Gen n) it done = done.written.risen
   done_has_written (command.Big n) it done = done.written.risen
   done_has_written command.Replay h done = done.written.risen
@@ -85,8 +91,8 @@ module _ {K : Type 0} (sink : Ghosts K) (old new : K) (now : Status) (kept : Lis
 
   pub done_complete : (c : Command) (it : Told (input_of c)) → HasDone c sink it old new now kept → IsQuiet (sink.faults old) (sink.faults new) → IsComplete c it now kept
   done_complete command.Check m done quiet = ⊎_elim (λ is. inl is) (λ fault. absurd (quiet (done.written.risen fault))) done.ended
-  done_complete (command.Sim grain.Coarse o) m done quiet = λ guests.
-      ⊎_elim (λ is. finished_status m (policy_answer m.policy) kept (ends_of m) done.coherent guests now is) (λ fault. absurd (quiet (done.written.risen fault))) done.ended
+  done_complete (command.Sim g o) m done quiet = λ guests.
+      ⊎_elim (λ is. finished_status g m kept done.coherent guests now is) (λ fault. absurd (quiet (done.written.risen fault))) done.ended
   done_complete (command.Gen n) it done quiet = ⊎_elim (λ is. inl is) (λ fault. absurd (quiet (done.written.risen fault))) done.ended
   done_complete (command.Big n) it done quiet = ⊎_elim (λ is. inl is) (λ fault. absurd (quiet (done.written.risen fault))) done.ended
   done_complete command.Race h done quiet = λ good. ⊎_elim (λ is. inl is) (λ fault. absurd (quiet (done.written.risen fault))) done.ended
@@ -439,6 +445,11 @@ module _ (read named : Result Command WordsFault) (c : Command) (is : read ≡ O
       (P : WordsFault → Type 0) → IfOk named (λ d. (read ≡ Ok d) ⊎ (read ≡ Err words.OutOfMemory))
       → IfErr named (λ f. read ≡ Err words.BadWords) → IfErr named P
   not_bad P good bad = subst (λ (r : Result Command WordsFault). IfErr r P) (sym (it_is good bad)) tt
+
+-- what holds of each command holds of the one that is named, if one is
+pub any_command : (named : Result Command WordsFault) (P : Command → Type 0) → ((c : Command) → P c) → IfOk named P
+any_command (Ok c) P all = all c
+any_command (Err f) P all = tt
 
 -- no command ends as bad words
 pub never_bad_words : {S K : Type 0} {c : Command} {source : Reader S} {sink : Ghosts K} {before after : S} {old new : K} {out : Outcome}

@@ -8,6 +8,8 @@ use Rattle.plat_base.specs.declared.statuses.Status.TheVariants as status
 use Rattle.plat_io.specs.Streams.{HasRisen}
 use Rattle.plat_io.specs.declared.faults.WriteFault.{WriteFault}
 use Rattle.plat_coarse.specs.CoarseSeen.{CoarseSeen}
+use Rattle.plat_events.specs.Runs.{ScheduledFine, scheduled_event, scheduled_events}
+use Rattle.plat_fine.specs.FineSeen.{FineSeen}
 use Rattle.plat_sched.specs.ScheduleSeen.{ScheduleSeen}
 use Rattle.plat_cmd.specs.Inputs.{Input, machine_text, history_text, nothing, IsFault}
 use Rattle.plat_cmd.specs.declared.outcomes.Outcome.{Outcome}
@@ -65,6 +67,20 @@ own_turn m x = scheduled_turn m (policy_answer m.policy) x
 -- the coarse run after so many turns
 abbrev pub after_turns : Machine → ℕ → Scheduled
 after_turns m turns = scheduled m (policy_answer m.policy) turns
+
+-- ---- a run of single operations
+
+-- a run and its schedule as they stand, as the definition of the simulated run has them
+abbrev pub standing_fine : FineSeen → ScheduleSeen → ScheduledFine
+standing_fine x s = record { fine = x.fine; chooser = s.chooser }
+
+-- one more event, by the schedule and the policy of the machine
+abbrev pub own_event : Machine → ScheduledFine → ScheduledFine
+own_event m x = scheduled_event m (policy_answer m.policy) x
+
+-- the simulated run after so many events
+abbrev pub after_events : Machine → ℕ → ScheduledFine
+after_events m events = scheduled_events m (policy_answer m.policy) events
 
 -- ---- writing
 

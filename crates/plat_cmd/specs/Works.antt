@@ -19,11 +19,15 @@ use Rattle.plat_base.specs.declared.endings.Ended.{Ended}
 use Rattle.plat_base.specs.declared.statuses.Bad.{Bad}
 use Rattle.plat_base.specs.declared.statuses.Status.{Status}
 use Rattle.plat_base.specs.declared.statuses.Status.TheVariants as status
+use Rattle.plat_events.specs.Runs.{most_events, fine_run}
+use Rattle.plat_events.specs.Runs.{ends_of as fine_ends}
+use Rattle.plat_event_laws.specs.Scheduled.{IsRunWithin}
 use Rattle.plat_io.specs.Adds.{is_part}
 use Rattle.plat_io.specs.Streams.{HasRisen, added}
 use Rattle.plat_io.specs.declared.sinks.Sink.{Ghosts}
 use Rattle.plat_cmd.specs.declared.words.Command.{Command}
 use Rattle.plat_cmd.specs.declared.words.Command.TheVariants as command
+use Rattle.plat_cmd.specs.declared.words.Grain.{Grain}
 use Rattle.plat_cmd.specs.declared.words.Grain.TheVariants as grain
 use Rattle.plat_cmd.specs.declared.words.Output.{Output}
 use Rattle.plat_cmd.specs.declared.words.Output.TheVariants as output
@@ -62,30 +66,49 @@ pub record HasPrinted {K : Type 0} (sink : Ghosts K) (m : Machine) (old new : K)
 
 -- ---- sim
 
-abbrev pub history_of : Machine → List Item
-history_of m = (coarse_run m (policy_answer m.policy)).history
+-- the history of the run by whole instructions, or by single operations
+abbrev pub history_of : Grain → Machine → List Item
+history_of grain.Coarse m = (coarse_run m (policy_answer m.policy)).history
+history_of grain.Fine m = (fine_run m (policy_answer m.policy)).history
 
-abbrev pub ends_of : Machine → List Ended
-ends_of m = (coarse_run m (policy_answer m.policy)).ends
+abbrev pub ends_of : Grain → Machine → List Ended
+ends_of grain.Coarse m = (coarse_run m (policy_answer m.policy)).ends
+ends_of grain.Fine m = fine_ends m (fine_run m (policy_answer m.policy)).privates
+
+-- the run ends at a limit of events, whoever is live then
+abbrev pub is_limited : Grain → Bool
+is_limited grain.Coarse = false
+is_limited grain.Fine = true
 
 -- what a run writes
 abbrev pub output_of : Output → Machine → List Item → List Ended → List ℕ
 output_of output.Report m items ends = report m items ends
 output_of output.Trace m items ends = history_text (record { machine = m; items = items; ends = ends })
 
--- the coarse run of m was made and kept, and its output was written
-pub record HasRun {K : Type 0} (o : Output) (sink : Ghosts K) (m : Machine) (old new : K) (now : Status) (kept : List Item) : Type 0 where
-  -- the history that is kept is that of the coarse run
-  pub history : kept ≡ history_of m
-  -- it breaks no rule and is one history of flat memory; nobody is spent, or lacks a frame, without need
-  pub coherent : IsCoherentRun m (policy_answer m.policy) kept (ends_of m)
+-- what is known of the coarse run alone
+pub record IsWholeRun (m : Machine) (kept : List Item) : Type 0 where
   -- each access finds its value in the frame that it goes to
   pub frames : AtEachAccess kept (FindsFrameWord m)
   -- every processor ended
-  pub over : IsOver m (ends_of m)
+  pub over : IsOver m (ends_of grain.Coarse m)
+
+-- how the run of a grain came to its end: a run of single operations is one of live actors, and an end is cut only where the
+-- most events were made
+abbrev pub IsRunOf : Grain → Machine → List Item → Type 0
+IsRunOf grain.Coarse m kept = IsWholeRun m kept
+IsRunOf grain.Fine m kept = IsRunWithin m (policy_answer m.policy) most_events (fine_run m (policy_answer m.policy))
+
+-- the run of m of this grain was made and kept, and its output was written
+pub record HasRun {K : Type 0} (g : Grain) (o : Output) (sink : Ghosts K) (m : Machine) (old new : K) (now : Status) (kept : List Item) : Type 0 where
+  -- the history that is kept is that of the run
+  pub history : kept ≡ history_of g m
+  -- it breaks no rule and is one history of flat memory; nobody is spent, or lacks a frame, without need
+  pub coherent : IsCoherentRun m (policy_answer m.policy) kept (ends_of g m)
+  pub run : IsRunOf g m kept
   -- printed values, final memory and counts are this history's
-  pub written : IsWritten sink old new now (output_of o m kept (ends_of m))
-  pub ended : IsOrWriteFault (status_of (ends_of m) false) now
+  pub written : IsWritten sink old new now (output_of o m kept (ends_of g m))
+  -- EventLimit where the most events were made and some end is cut, else the status of the ends
+  pub ended : IsOrWriteFault (status_of (ends_of g m) (is_limited g)) now
 
 -- ---- replay
 
@@ -138,14 +161,14 @@ pub record HasCosted {K : Type 0} (sink : Ghosts K) (h : History) (old new : K) 
 -- the coarse run of the n-th generated machine was made and kept, and its summary was written
 pub record HasSummed {K : Type 0} (n : ℕ) (sink : Ghosts K) (m : Machine) (old new : K) (now : Status) (kept : List Item) : Type 0 where
   -- the history that is kept is that of the coarse run
-  pub history : kept ≡ history_of m
+  pub history : kept ≡ history_of grain.Coarse m
   -- it breaks no rule and is one history of flat memory; nobody lacks a frame
-  pub coherent : IsCoherentRun m (policy_answer m.policy) kept (ends_of m)
+  pub coherent : IsCoherentRun m (policy_answer m.policy) kept (ends_of grain.Coarse m)
   -- each access finds its value in the frame that it goes to
   pub frames : AtEachAccess kept (FindsFrameWord m)
   -- every processor halted in the same turn
-  pub halted : ends_of m ≡ replicate 8 (halted_in 40008)
-  pub written : IsWritten sink old new now (summary n m kept (ends_of m))
+  pub halted : ends_of grain.Coarse m ≡ replicate 8 (halted_in 40008)
+  pub written : IsWritten sink old new now (summary n m kept (ends_of grain.Coarse m))
   pub ended : IsOrWriteFault status.Done now
 
 -- ---- each command
@@ -153,7 +176,7 @@ pub record HasSummed {K : Type 0} (n : ℕ) (sink : Ghosts K) (m : Machine) (old
 -- what a command does with what it read
 abbrev pub HasDone : {K : Type 0} (c : Command) → Ghosts K → Told (input_of c) → K → K → Status → List Item → Type 0
 HasDone command.Check sink m old new now kept = HasPrinted sink m old new now kept
-HasDone (command.Sim grain.Coarse o) sink m old new now kept = HasRun o sink m old new now kept
+HasDone (command.Sim g o) sink m old new now kept = HasRun g o sink m old new now kept
 HasDone (command.Gen n) sink it old new now kept = HasPrinted sink (generated n) old new now kept
 HasDone (command.Big n) sink it old new now kept = HasSummed n sink (generated n) old new now kept
 HasDone command.Replay sink h old new now kept = HasReplayed sink h old new now kept
@@ -191,11 +214,17 @@ IsDoneWithMemory now = (now ≡ status.Done) ⊎ (now ≡ status.OutOfMemory)
 abbrev pub LacksFrames : Machine → Status → Type 0
 LacksFrames m now = (m.frames < m.pages) × (now ≡ status.NoFrames)
 
+-- the most events were made, and some processor had not ended
+abbrev pub ReachesLimit : Grain → Machine → Status → Type 0
+ReachesLimit grain.Coarse m now = ⊥
+ReachesLimit grain.Fine m now = (ends_as end.Cut (ends_of grain.Fine m) ≡ true) × (now ≡ status.EventLimit)
+
 -- what a command comes to where no read and no write fails: to its end, but for want of memory. A run of guests that halt or
--- trap within the budget, on the values that they get in the history, can come to want of frames too, if there are too few
+-- trap within the budget, on the values that they get in the history, can come to want of frames too, if there are too few, and
+-- a run of single operations to its limit of events
 abbrev pub IsComplete : (c : Command) → Told (input_of c) → Status → List Item → Type 0
 IsComplete command.Check m now kept = IsDoneWithMemory now
-IsComplete (command.Sim g o) m now kept = GuestsEnd m kept → IsDoneWithMemory now ⊎ LacksFrames m now
+IsComplete (command.Sim g o) m now kept = GuestsEnd m kept → IsDoneWithMemory now ⊎ LacksFrames m now ⊎ ReachesLimit g m now
 IsComplete (command.Gen n) it now kept = IsDoneWithMemory now
 IsComplete (command.Big n) it now kept = IsDoneWithMemory now
 IsComplete command.Replay h now kept = IsDoneHistory h → IsDoneWithMemory now
@@ -221,6 +250,16 @@ is_judge command.Replay = true
 is_judge command.Race = true
 is_judge command.Cost = true
 
+-- a command whose run may reach its limit of events
+abbrev pub may_reach_limit : Command → Bool
+may_reach_limit command.Check = false
+may_reach_limit (command.Sim g o) = is_limited g
+may_reach_limit (command.Gen n) = false
+may_reach_limit (command.Big n) = false
+may_reach_limit command.Replay = false
+may_reach_limit command.Race = false
+may_reach_limit command.Cost = false
+
 -- the statuses that a command can end with
 abbrev pub may_end : Command → Status → Bool
 may_end c status.Done = true
@@ -228,7 +267,7 @@ may_end c (status.HistoryBad bad) = is_judge c
 may_end c (status.Refused refused) = reads_some (input_of c)
 may_end c status.NoFrames = is_run c
 may_end c status.Spent = is_run c
-may_end c status.EventLimit = false
+may_end c status.EventLimit = may_reach_limit c
 may_end c status.ReadFault = reads_some (input_of c)
 may_end c status.WriteFault = true
 may_end c status.OutOfMemory = true

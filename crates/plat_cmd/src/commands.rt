@@ -34,8 +34,10 @@ pub fn check<S: Source, K: Sink>(alloc: Global, source: &mut S, sink: &mut K) ->
     }
 }
 
-/// `sim`: reads a machine text, makes its run, and writes its report or its history text. What comes after the run is the status of its ends:
-/// NoFrames where some processor found no frame, else Spent where some processor spent its budget, else Done.
+/// `sim`: reads a machine text, makes its run by its schedule, of whole instructions or of single operations, and writes its report or
+/// its history text. What comes after the run is the status of its ends: EventLimit where a run of single operations made 4,194,304
+/// events and some processor had not ended, else NoFrames where some processor found no frame, else Spent where some processor spent
+/// its budget, else Done.
 pub fn sim<S: Source, K: Sink>(
     alloc: Global,
     grain: Grain,
@@ -47,9 +49,9 @@ pub fn sim<S: Source, K: Sink>(
         result }
 {
     match read_machine(alloc, source) {
-        Ok(cfg) => match (grain, output) {
-            (Grain::Coarse, Output::Report) => simulate(alloc, cfg, sink),
-            (Grain::Coarse, Output::Trace) => trace(alloc, cfg, sink),
+        Ok(cfg) => match output {
+            Output::Report => simulate(alloc, grain, cfg, sink),
+            Output::Trace => trace(alloc, grain, cfg, sink),
         },
         Err(stop) => without_run(alloc, stop_status(stop)),
     }

@@ -9,10 +9,12 @@ ghost use Rattle.plat_cmd.specs.Steps.{HasStopped};
 ghost use Rattle.plat_cmd.specs.Works.{HasPrinted, HasSummed, IsDoneWithMemory, ends_of, history_of};
 ghost use Rattle.plat_cmd.specs.declared.outcomes.Stop.TheVariants as stops;
 ghost use Rattle.plat_cmd.specs.declared.words.Command.TheVariants as commands;
+ghost use Rattle.plat_cmd.specs.declared.words.Grain.TheVariants as grains;
 
 use crate::checks::print;
 use crate::outcomes::{Outcome, status_after, without_run};
 use crate::simulations::{Made, make};
+use crate::words::Grain;
 use plat_base::Status;
 use plat_gen::generate;
 use plat_io::Sink;
@@ -22,8 +24,8 @@ use std::alloc::Global;
 /// Writes the summary of the run of the `n`-th generated machine.
 fn summed<K: Sink>(made: Made, n: u32, sink: &mut K) -> Outcome
     requires number { machine made.finished.cfg ≡ generated n }
-    requires items { made.finished.items.items ≡ history_of (machine made.finished.cfg) }
-    requires ends { made.finished.ends.items ≡ ends_of (machine made.finished.cfg) }
+    requires items { made.finished.items.items ≡ history_of grains.Coarse (machine made.finished.cfg) }
+    requires ends { made.finished.ends.items ≡ ends_of grains.Coarse (machine made.finished.cfg) }
     requires tally { IsFlatOf (machine made.finished.cfg) [] made.tally }
     ensures { let m = machine made.finished.cfg
         in HasSummed n K.Sink m sink.old sink.new result.status result.kept.items }
@@ -63,7 +65,7 @@ pub fn sum_nth<K: Sink>(alloc: Global, n: u32, sink: &mut K) -> Outcome
         Ok(cfg) => cfg,
         Err(_) => return without_run(alloc, Status::OutOfMemory),
     };
-    match make(alloc, cfg) {
+    match make(alloc, Grain::Coarse, cfg) {
         Ok(made) => summed(made, n, sink),
         Err(_) => without_run(alloc, Status::OutOfMemory),
     }

@@ -5,8 +5,10 @@
 mod answer_tests;
 mod arguments;
 mod checks;
+mod coarse_runs;
 mod commands;
 mod costs;
+mod fine_runs;
 mod generated;
 mod judgings;
 mod outcomes;

@@ -1,5 +1,5 @@
 //! How commands end.
-ghost use Rattle.std.specs.Prelude.{◌≡◌, [], false};
+ghost use Rattle.std.specs.Prelude.{◌≡◌, []};
 ghost use Rattle.plat_base.specs.Statuses.{status_of as status_of_ends};
 ghost use Rattle.plat_base.specs.Statuses.{ends_as};
 ghost use Rattle.plat_cmd.specs.Steps.{stop_status, status_after};
@@ -54,11 +54,14 @@ fn ends_as(ends: &[Ended], end: End) -> bool
     ends.iter().any(|ended| ended.end == end)
 }
 
-/// The status of a run whose processors ended so.
-pub fn status_of(ends: &[Ended]) -> Status
-    ensures { result ≡ status_of_ends ends.now false }
+/// The status of a run whose processors ended so. Where the run is limited, a processor whose end is cut tells that the limit of
+/// events was reached.
+pub fn status_of(ends: &[Ended], limited: bool) -> Status
+    ensures { result ≡ status_of_ends ends.now limited }
 {
-    if ends_as(ends, End::NoFrames) {
+    if limited && ends_as(ends, End::Cut) {
+        Status::EventLimit
+    } else if ends_as(ends, End::NoFrames) {
         Status::NoFrames
     } else if ends_as(ends, End::Spent) {
         Status::Spent

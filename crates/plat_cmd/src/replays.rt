@@ -20,7 +20,7 @@ pub fn reported<K: Sink>(judged: Judged<Tally>, sink: &mut K) -> Outcome
     let Judged { history, memory } = judged;
     let History { cfg, items, ends } = history;
     let written = report(memory, &cfg, items.as_slice(), ends.as_slice(), sink);
-    let complete = status_of(ends.as_slice());
+    let complete = status_of(ends.as_slice(), false);
     Outcome {
         status: status_after(complete, written),
         kept: items,

@@ -271,23 +271,18 @@ end
 
 #[test]
 fn reports_of_small_runs(rt: HostRuntime) -> Result<(), Fail> {
-    let runs: [(&[u8], &[u8]); 5] = [
-        (SHOOTDOWN, SHOOTDOWN_REPORT),
-        (ALIASES, ALIASES_REPORT),
-        (BUFFERS_APART, BUFFERS_APART_REPORT),
-        (BUFFERS_BY_TURNS, BUFFERS_BY_TURNS_REPORT),
-        (RANDOM, RANDOM_REPORT),
+    let runs: [(Grain, &[u8], &[u8]); 6] = [
+        (Grain::Coarse, SHOOTDOWN, SHOOTDOWN_REPORT),
+        (Grain::Coarse, ALIASES, ALIASES_REPORT),
+        (Grain::Coarse, BUFFERS_APART, BUFFERS_APART_REPORT),
+        (Grain::Fine, BUFFERS_APART, BUFFERS_APART_REPORT),
+        (Grain::Coarse, BUFFERS_BY_TURNS, BUFFERS_BY_TURNS_REPORT),
+        (Grain::Coarse, RANDOM, RANDOM_REPORT),
     ];
-    for (text, report) in runs {
+    for (grain, text, report) in runs {
         let mut source = MemorySource::new(rt.alloc(), text, List::new(rt.alloc()))?;
         let mut sink = MemorySink::new(rt.alloc(), 2000, List::new(rt.alloc()))?;
-        let outcome = sim(
-            rt.alloc(),
-            Grain::Coarse,
-            Output::Report,
-            &mut source,
-            &mut sink,
-        );
+        let outcome = sim(rt.alloc(), grain, Output::Report, &mut source, &mut sink);
         assert_eq!(rt; outcome.status, Status::Done);
         assert_eq!(rt; sink.bytes(), report);
     }

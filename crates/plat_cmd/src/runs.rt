@@ -1,72 +1,22 @@
-//! The coarse run of a machine by its schedule.
-ghost use Rattle.std.specs.Prelude.{◌≡◌, false, None, IfOk};
-ghost use Rattle.plat_base.specs.Schedule.{choose, live_processors, schedule_start};
+//! The run of a machine by its schedule, of whole instructions or of single operations.
+ghost use Rattle.std.specs.Prelude.{◌≡◌, IfOk};
 ghost use Rattle.plat_base.specs.Seen.{machine};
-ghost use Rattle.plat_sched.specs.Actors.{actors_of};
-ghost use Rattle.plat_cmd.specs.Steps.{standing, own_turn, after_turns};
 ghost use Rattle.plat_cmd.specs.Works.{history_of, ends_of};
 
+use crate::coarse_runs::run_coarse;
+use crate::fine_runs::run_fine;
+use crate::words::Grain;
 use plat_base::{Config, Finished, OutOfMemory};
-use plat_coarse::{Coarse, most_turns};
-use plat_sched::Schedule;
 use std::alloc::Global;
 
-/// The live processors, as the bits of a word.
-fn live_word(coarse: &Coarse) -> u32
-    ensures { actors_of result ≡ live_processors coarse.now.machine coarse.now.run }
-{
-    let mut live = 0u32;
-    for q in 0..coarse.config().nodes {
-        if coarse.live(q) {
-            live |= 1 << q;
-        }
-    }
-    live
-}
-
-/// The turn of the processor that the schedule has next, and whether there was one. Where nobody is live, nothing changes.
-fn next_turn(coarse: &mut Coarse, schedule: &mut Schedule) -> bool
-    requires plan { schedule.old.turns ≡ coarse.old.machine.schedule }
-    ensures machine { coarse.new.machine ≡ coarse.old.machine }
-    ensures plan { schedule.new.turns ≡ schedule.old.turns }
-    ensures turn { standing coarse.new schedule.new
-        ≡ own_turn coarse.old.machine (standing coarse.old schedule.old) }
-    ensures over { let live = live_processors coarse.old.machine coarse.old.run
-        in result ≡ false → choose coarse.old.machine.schedule live schedule.old.chooser ≡ None }
-{
-    let live = live_word(coarse);
-    match schedule.next(live) {
-        Some(q) => {
-            coarse.turn(q);
-            true
-        }
-        None => false,
-    }
-}
-
-/// Makes so many turns of a run that has made none, or all of them where it is over before.
-fn make_turns(coarse: &mut Coarse, schedule: &mut Schedule, turns: u32)
-    requires plan { schedule.old.turns ≡ coarse.old.machine.schedule }
-    requires start { standing coarse.old schedule.old ≡ schedule_start coarse.old.machine }
-    ensures machine { coarse.new.machine ≡ coarse.old.machine }
-    ensures turns { standing coarse.new schedule.new ≡ after_turns coarse.old.machine turns }
-{
-    for _turn in 0..turns {
-        if !next_turn(coarse, schedule) {
-            return;
-        }
-    }
-}
-
-/// The coarse run of a machine by its schedule. It takes memory before the first turn alone.
-pub fn run(alloc: Global, cfg: Config) -> Result<Finished, OutOfMemory>
+/// The run of a machine of this grain. It takes memory before its first turn or event alone.
+pub fn run(alloc: Global, grain: Grain, cfg: Config) -> Result<Finished, OutOfMemory>
     ensures machine { IfOk result (λ finished. machine finished.cfg ≡ machine cfg) }
-    ensures items { IfOk result (λ finished. finished.items.items ≡ history_of (machine cfg)) }
-    ensures ends { IfOk result (λ finished. finished.ends.items ≡ ends_of (machine cfg)) }
+    ensures items { IfOk result (λ finished. finished.items.items ≡ history_of grain (machine cfg)) }
+    ensures ends { IfOk result (λ finished. finished.ends.items ≡ ends_of grain (machine cfg)) }
 {
-    let turns = most_turns(&cfg);
-    let mut schedule = Schedule::new(alloc, &cfg.schedule)?;
-    let mut coarse = Coarse::new(alloc, cfg)?;
-    make_turns(&mut coarse, &mut schedule, turns);
-    Ok(coarse.finish())
+    match grain {
+        Grain::Coarse => run_coarse(alloc, cfg),
+        Grain::Fine => run_fine(alloc, cfg),
+    }
 }

@@ -1,4 +1,4 @@
-//! Simulations: the coarse run of a machine, and its report.
+//! Simulations: the run of a machine, and its report.
 ghost use Rattle.std.specs.Prelude.{◌≡◌, ◌⊎◌, [], Ok, IfOk};
 ghost use Rattle.plat_base.specs.Machine.{Machine};
 ghost use Rattle.plat_base.specs.Seen.{machine};
@@ -11,6 +11,7 @@ ghost use Rattle.plat_cmd.specs.declared.words.Output.TheVariants as outputs;
 
 use crate::outcomes::{Outcome, status_after, status_of, without_run};
 use crate::runs::run;
+use crate::words::Grain;
 use plat_base::{Config, Finished, OutOfMemory, Status};
 use plat_io::Sink;
 use plat_report::{Tally, report};
@@ -23,25 +24,25 @@ pub struct Made {
     pub tally: Tally,
 }
 
-/// The coarse run of a machine. All memory that the report takes is taken before it.
-pub fn make(alloc: Global, cfg: Config) -> Result<Made, OutOfMemory>
+/// The run of a machine. All memory that the report takes is taken before it.
+pub fn make(alloc: Global, grain: Grain, cfg: Config) -> Result<Made, OutOfMemory>
     ensures machine { IfOk result (λ made. machine made.finished.cfg ≡ machine cfg) }
-    ensures items { IfOk result (λ made. made.finished.items.items ≡ history_of (machine cfg)) }
-    ensures ends { IfOk result (λ made. made.finished.ends.items ≡ ends_of (machine cfg)) }
+    ensures items { IfOk result (λ made. made.finished.items.items ≡ history_of grain (machine cfg)) }
+    ensures ends { IfOk result (λ made. made.finished.ends.items ≡ ends_of grain (machine cfg)) }
     ensures tally { IfOk result (λ made. IsFlatOf (machine cfg) [] made.tally) }
 {
     let tally = Tally::new(alloc, &cfg)?;
-    let finished = run(alloc, cfg)?;
+    let finished = run(alloc, grain, cfg)?;
     Ok(Made { finished, tally })
 }
 
 /// Writes the report of a run.
-fn reported<K: Sink>(made: Made, sink: &mut K) -> Outcome
-    requires items { made.finished.items.items ≡ history_of (machine made.finished.cfg) }
-    requires ends { made.finished.ends.items ≡ ends_of (machine made.finished.cfg) }
+fn reported<K: Sink>(grain: Grain, made: Made, sink: &mut K) -> Outcome
+    requires items { made.finished.items.items ≡ history_of grain (machine made.finished.cfg) }
+    requires ends { made.finished.ends.items ≡ ends_of grain (machine made.finished.cfg) }
     requires tally { IsFlatOf (machine made.finished.cfg) [] made.tally }
     ensures { let m = machine made.finished.cfg
-        in HasRun outputs.Report K.Sink m sink.old sink.new result.status result.kept.items }
+        in HasRun grain outputs.Report K.Sink m sink.old sink.new result.status result.kept.items }
 {
     let Made { finished, tally } = made;
     let written = report(
@@ -51,20 +52,20 @@ fn reported<K: Sink>(made: Made, sink: &mut K) -> Outcome
         finished.ends.as_slice(),
         sink,
     );
-    let complete = status_of(finished.ends.as_slice());
+    let complete = status_of(finished.ends.as_slice(), grain.is_limited());
     Outcome {
         status: status_after(complete, written),
         kept: finished.items,
     }
 }
 
-/// Makes the coarse run of a machine and writes its report.
-pub fn simulate<K: Sink>(alloc: Global, cfg: Config, sink: &mut K) -> Outcome
-    ensures { HasRun outputs.Report K.Sink (machine cfg) sink.old sink.new result.status result.kept.items
+/// Makes the run of a machine and writes its report.
+pub fn simulate<K: Sink>(alloc: Global, grain: Grain, cfg: Config, sink: &mut K) -> Outcome
+    ensures { HasRun grain outputs.Report K.Sink (machine cfg) sink.old sink.new result.status result.kept.items
         ⊎ HasStopped stops.OutOfMemory sink.old sink.new result }
 {
-    match make(alloc, cfg) {
-        Ok(made) => reported(made, sink),
+    match make(alloc, grain, cfg) {
+        Ok(made) => reported(grain, made, sink),
         Err(_) => without_run(alloc, Status::OutOfMemory),
     }
 }

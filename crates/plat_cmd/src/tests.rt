@@ -118,13 +118,15 @@ fn simulated(alloc: Global, text: &[u8]) -> Result<Outcome, OutOfMemory> {
 
 #[test]
 fn sim_reports_the_smallest_run(rt: HostRuntime) -> Result<(), Fail> {
-    let mut source = source_of(rt.alloc(), SMALLEST)?;
-    let mut sink = MemorySink::new(rt.alloc(), 1000, List::new(rt.alloc()))?;
-    let words: [&str; 2] = ["sim", "coarse"];
-    let outcome = platinum(rt.alloc(), words.as_slice(), &mut source, &mut sink);
-    assert_eq!(rt; outcome.status, Status::Done);
-    assert_eq!(rt; outcome.kept.len(), 3);
-    assert_eq!(rt; sink.bytes(), REPORT);
+    for grain in ["coarse", "fine"] {
+        let mut source = source_of(rt.alloc(), SMALLEST)?;
+        let mut sink = MemorySink::new(rt.alloc(), 1000, List::new(rt.alloc()))?;
+        let words: [&str; 2] = ["sim", grain];
+        let outcome = platinum(rt.alloc(), words.as_slice(), &mut source, &mut sink);
+        assert_eq!(rt; outcome.status, Status::Done);
+        assert_eq!(rt; outcome.kept.len(), 3);
+        assert_eq!(rt; sink.bytes(), REPORT);
+    }
     Ok(())
 }
 
@@ -250,9 +252,14 @@ fn words_name_commands(rt: HostRuntime) -> Result<(), Fail> {
         grain: Grain::Coarse,
         output: Output::Report,
     };
-    let lists: [(&[&str], Command); 4] = [
+    let trace = Command::Sim {
+        grain: Grain::Fine,
+        output: Output::Trace,
+    };
+    let lists: [(&[&str], Command); 5] = [
         (&["check"], Command::Check),
         (&["sim", "coarse"], report),
+        (&["sim", "fine", "trace"], trace),
         (&["gen", "7"], Command::Gen(7)),
         (&["big", "4294967295"], Command::Big(4_294_967_295)),
     ];

@@ -1,4 +1,4 @@
-//! Traces: the coarse run of a machine, and its history text.
+//! Traces: the run of a machine, and its history text.
 ghost use Rattle.std.specs.Prelude.{◌≡◌, ◌⊎◌};
 ghost use Rattle.plat_base.specs.Seen.{machine};
 ghost use Rattle.plat_cmd.specs.Works.{HasRun, history_of, ends_of};
@@ -8,17 +8,18 @@ ghost use Rattle.plat_cmd.specs.declared.words.Output.TheVariants as outputs;
 
 use crate::outcomes::{Outcome, status_after, status_of, without_run};
 use crate::runs::run;
+use crate::words::Grain;
 use plat_base::{Config, Finished, Status};
 use plat_history::print_items;
 use plat_io::Sink;
 use std::alloc::Global;
 
 /// Writes the history text of a run.
-fn traced<K: Sink>(finished: Finished, sink: &mut K) -> Outcome
-    requires items { finished.items.items ≡ history_of (machine finished.cfg) }
-    requires ends { finished.ends.items ≡ ends_of (machine finished.cfg) }
+fn traced<K: Sink>(grain: Grain, finished: Finished, sink: &mut K) -> Outcome
+    requires items { finished.items.items ≡ history_of grain (machine finished.cfg) }
+    requires ends { finished.ends.items ≡ ends_of grain (machine finished.cfg) }
     ensures { let m = machine finished.cfg
-        in HasRun outputs.Trace K.Sink m sink.old sink.new result.status result.kept.items }
+        in HasRun grain outputs.Trace K.Sink m sink.old sink.new result.status result.kept.items }
 {
     let written = print_items(
         &finished.cfg,
@@ -26,20 +27,20 @@ fn traced<K: Sink>(finished: Finished, sink: &mut K) -> Outcome
         finished.ends.as_slice(),
         sink,
     );
-    let complete = status_of(finished.ends.as_slice());
+    let complete = status_of(finished.ends.as_slice(), grain.is_limited());
     Outcome {
         status: status_after(complete, written),
         kept: finished.items,
     }
 }
 
-/// Makes the coarse run of a machine and writes its history text.
-pub fn trace<K: Sink>(alloc: Global, cfg: Config, sink: &mut K) -> Outcome
-    ensures { HasRun outputs.Trace K.Sink (machine cfg) sink.old sink.new result.status result.kept.items
+/// Makes the run of a machine and writes its history text.
+pub fn trace<K: Sink>(alloc: Global, grain: Grain, cfg: Config, sink: &mut K) -> Outcome
+    ensures { HasRun grain outputs.Trace K.Sink (machine cfg) sink.old sink.new result.status result.kept.items
         ⊎ HasStopped stops.OutOfMemory sink.old sink.new result }
 {
-    match run(alloc, cfg) {
-        Ok(finished) => traced(finished, sink),
+    match run(alloc, grain, cfg) {
+        Ok(finished) => traced(grain, finished, sink),
         Err(_) => without_run(alloc, Status::OutOfMemory),
     }
 }

@@ -2,16 +2,30 @@
 ghost use Rattle.std.specs.Prelude.{◌≡◌, ◌⊎◌, IfOk, IfErr, Ok, Err};
 ghost use Rattle.plat_cmd.specs.Arguments.{texts_of};
 ghost use Rattle.plat_cmd.specs.Commands.{read_of, numbered_of, same_words};
+ghost use Rattle.plat_cmd.specs.Works.{is_limited};
 ghost use Rattle.plat_cmd.specs.declared.words.WordsFault.TheVariants as faults;
 
 use crate::arguments::{are_plain, arguments};
 use plat_text::read_u32;
 use std::alloc::Global;
 
-/// How finely a simulation interleaves its processors: by whole instructions.
+/// How finely a simulation interleaves its actors: by whole instructions, or by single operations on shared words.
 #[derive(Clone, Copy, Debug, PartialEq, Eq)]
 pub enum Grain {
     Coarse,
+    Fine,
+}
+
+impl Grain {
+    /// Whether a run ends at a limit of events.
+    pub(crate) fn is_limited(self) -> bool
+        ensures { result ≡ is_limited self }
+    {
+        match self {
+            Grain::Coarse => false,
+            Grain::Fine => true,
+        }
+    }
 }
 
 /// What a run writes: its report, or the text of its history.
@@ -83,6 +97,16 @@ fn command_of(words: &[&str]) -> Result<Command, WordsFault>
     } else if are_words(words, &["sim", "coarse", "trace"]) {
         Ok(Command::Sim {
             grain: Grain::Coarse,
+            output: Output::Trace,
+        })
+    } else if are_words(words, &["sim", "fine"]) {
+        Ok(Command::Sim {
+            grain: Grain::Fine,
+            output: Output::Report,
+        })
+    } else if are_words(words, &["sim", "fine", "trace"]) {
+        Ok(Command::Sim {
+            grain: Grain::Fine,
             output: Output::Trace,
         })
     } else if are_words(words, &["replay"]) {

@@ -1,2 +1,5 @@
+pub mod ChoiceLaws
 pub mod EventLaws
+pub mod LiveLaws
 pub mod RunLaws
+pub mod ScheduledLaws

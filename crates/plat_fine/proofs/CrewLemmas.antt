@@ -1,28 +1,20 @@
 -- the processors of a run after one of them was changed
-use Rattle.std.proofs.Common.{◌≡◌, ℕ, zero, suc, ◌+◌, ◌*◌, ◌<◌, ◌≤◌, ◌≢◌, Bool, true, false, List, [], ◌∷◌, ◌++◌, length, set, get_or, map, take, refl, sym, ap, ◌∙◌, subst, arith, get_or-set_same, get_or-set_other, length-append, zero-add}
-use Rattle.std.specs.Prelude.{IsTrue, not, ◌==◌, if◌then◌else◌, sum_by, replicate, Option, Some, None, slice_get, slice_set}
-use Rattle.std.specs.Option.{option_map_or}
+use Rattle.std.proofs.Common.{◌≡◌, ℕ, zero, suc, ◌+◌, ◌<◌, ◌≢◌, Bool, true, false, List, [], ◌∷◌, ◌++◌, length, set, map, refl, sym, ap, ◌∙◌, subst, arith, get_or-set_same, get_or-set_other, length-append, zero-add}
+use Rattle.std.specs.Prelude.{◌==◌, if◌then◌else◌, sum_by, replicate, Some, slice_get, slice_set}
 use Rattle.std.specs.List.{fold}
 use Rattle.std.proofs.lemmas.Bool.Decides.{nat_tests}
 use Rattle.std.proofs.lemmas.List.{length-set, length-map, map-set, take_all, get_or_append_left}
-use Rattle.std.proofs.lemmas.List.Sums.{sum_by-set, sum_by-le}
-use Rattle.std.proofs.lemmas.List.Elements.{All-from_get_or}
+use Rattle.std.proofs.lemmas.List.Sums.{sum_by-set}
 use Rattle.std.proofs.Math.Seq.{get_or-append_seam}
 use Rattle.plat_base.specs.Machine.{Machine}
-use Rattle.plat_base.specs.Rooms.{processor_room}
 use Rattle.plat_base.specs.declared.endings.Ended.{Ended}
-use Rattle.plat_base.specs.declared.endings.End.{End}
-use Rattle.plat_base.specs.declared.endings.End.TheVariants as end
-use Rattle.plat_base.specs.declared.items.Item.{Item}
 use Rattle.std.proofs.lemmas.List.FromFn.{map-range_with_len_more, length-range_with_len}
 use Rattle.plat_base.specs.Pages.{numbers}
-use Rattle.plat_events.specs.Privates.{Private, Polling, NewTurn, LiveLooking, first_private, is_over}
-use Rattle.plat_events.specs.Events.{with_item}
+use Rattle.plat_events.specs.Privates.{Private, Polling, NewTurn, LiveLooking, first_private}
 use Rattle.plat_events.specs.Runs.{ended_by, end_at, ends_of}
 use Rattle.plat_proc.specs.ProcSeen.{ProcSeen}
-use Rattle.plat_proc.specs.Within.{Fits}
 use Rattle.plat_fine.specs.Crew.{IsCrew, IsProc, no_proc, proc_at, states}
-use Rattle.plat_fine.specs.FineSeen.{is_live, items_of}
+use Rattle.plat_fine.specs.FineSeen.{cut_first, items_of}
 
 -- ---- where the processors stand
 
@@ -30,21 +22,6 @@ pub get-states : (procs : List ProcSeen) (q : ℕ) → q < length procs → slic
 get-states [] q h = absurd (omega arith)
 get-states (x ∷ xs) zero h = refl
 get-states (x ∷ xs) (suc q) h = get-states xs q (omega arith)
-
-pub live-there : (procs : List ProcSeen) (q : ℕ) → is_live (states procs) q ≡ true → q < length procs
-live-there [] q h = absurd cc
-live-there (x ∷ xs) zero h = omega arith
-live-there (x ∷ xs) (suc q) h = let there = live-there xs q h in omega arith
-
-not-true : (b : Bool) → not b ≡ true → b ≡ false
-not-true true h = absurd cc
-not-true false h = refl
-
-pub is_live-at : (procs : List ProcSeen) (q : ℕ) → q < length procs → is_live (states procs) q ≡ not (is_over (proc_at procs q).state.place)
-is_live-at procs q h = ap (λ (o : Option Private). option_map_or (λ (p : Private). not (is_over p.place)) o false) (get-states procs q h)
-
-pub live-not_over : (procs : List ProcSeen) (q : ℕ) → is_live (states procs) q ≡ true → is_over (proc_at procs q).state.place ≡ false
-live-not_over procs q h = not-true (is_over (proc_at procs q).state.place) (sym (is_live-at procs q (live-there procs q h)) ∙ h)
 
 -- ---- one of them is changed
 
@@ -90,14 +67,6 @@ pub items-set :
     (procs : List ProcSeen) (q : ℕ) (y : ProcSeen) → q < length procs →
     sum_by items_of (set procs q y) + items_of (proc_at procs q) ≡ sum_by items_of procs + items_of y
 items-set procs q y h = sum_by-set items_of procs q y no_proc h
-
-items-few : (m : Machine) (x : ProcSeen) → Fits m x → items_of x ≤ processor_room m.budget
-items-few m x f = omega (arith, f.within.items, f.within.turns)
-
-pub items-most : (m : Machine) (procs : List ProcSeen) → IsCrew m procs → sum_by items_of procs ≤ length procs * processor_room m.budget
-items-most m procs c =
-    sum_by-le items_of (processor_room m.budget) procs
-    (All-from_get_or (λ x. items_of x ≤ processor_room m.budget) procs no_proc (λ k l. items-few m (proc_at procs k) (c.each k l).fits))
 
 -- ---- the start
 
@@ -147,9 +116,6 @@ items-states (x ∷ xs) acc = items-states xs (acc + items_of x)
 pub items-none : (m : Machine) (procs : List ProcSeen) → states procs ≡ map (first_private m) (numbers m.nodes) → sum_by items_of procs ≡ 0
 items-none m procs e = items-states procs 0 ∙ ap (sum_by items_in) e ∙ no-items m (numbers m.nodes) 0
 
-abbrev pub cut_first : Ended
-cut_first = record { end = end.Cut; turns = 0 }
-
 abbrev cut_by : Bool → Ended
 cut_by b = record { end = end_at (if b then LiveLooking else Polling NewTurn); turns = 0 }
 
@@ -169,6 +135,3 @@ pub ends-first : (m : Machine) (procs : List ProcSeen) → states procs ≡ map 
 ends-first m procs e =
     ends-all m procs (crew-all m procs e) ∙ ap (λ (ps : List Private). map ended_by ps) e ∙ all-cut m (numbers m.nodes)
     ∙ ap (λ (k : ℕ). replicate k cut_first) (length-range_with_len 0 m.nodes)
-
-pub room-enough : (nodes budget long spare : ℕ) → 4 * budget * nodes ≤ spare → nodes * processor_room budget ≤ long + spare
-room-enough nodes budget long spare h = grind arith

@@ -1,15 +1,13 @@
 -- an event through a port is the event of a run
-use Rattle.std.proofs.Common.{◌≡◌, ℕ, zero, suc, ◌+◌, ◌<◌, ◌≤◌, Bool, true, false, List, [], ◌∷◌, ◌++◌, length, set, get_or, refl, sym, ap, ◌∙◌, subst, arith}
-use Rattle.std.specs.Prelude.{not, Option, Some, None, IfSome, slice_get, slice_set, slice_index}
+use Rattle.std.proofs.Common.{◌≡◌, ℕ, Bool, true, false, List, [], ◌∷◌, ◌++◌, length, refl, sym, ap, ◌∙◌, arith}
+use Rattle.std.specs.Prelude.{Option, Some, None, slice_get, slice_set, slice_index}
 use Rattle.std.proofs.lemmas.Option.{slice_get_past}
 use Rattle.plat_base.specs.Machine.{Machine}
 use Rattle.plat_base.specs.Verdicts.{Answer, policy_answer}
 use Rattle.plat_base.specs.declared.items.Item.{Item}
-use Rattle.plat_base.specs.declared.words.Op.{Op}
-use Rattle.plat_base.specs.declared.words.WordName.{WordName}
 use Rattle.plat_events.specs.Operations.{written, told}
 use Rattle.plat_events.specs.Privates.{Private}
-use Rattle.plat_events.specs.Events.{next_of, after, item_of, item_if, item_at, is_followed, named_next, moved_at, with_item, after_if}
+use Rattle.plat_events.specs.Events.{after, item_of, item_if, item_at, is_followed, named_next, moved_at, with_item, after_if}
 use Rattle.plat_events.specs.Runs.{Fine, event, event_at, event_by}
 use Rattle.plat_ports.specs.Ports.{IsEvent, Makes, words_set}
 

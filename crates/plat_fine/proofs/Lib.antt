@@ -1,4 +1,6 @@
 pub mod EventLemmas
 pub mod CrewLemmas
+pub mod ActorLemmas
+pub mod RoomLemmas
 pub mod RunLemmas
 pub mod TriedLemmas

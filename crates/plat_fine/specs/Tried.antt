@@ -1,23 +1,24 @@
--- the machine of this crate's tests: two nodes, whose guests switch once, and no entry
-use Rattle.std.specs.Prelude.{List, [], ◌∷◌}
+-- the machines of this crate's tests: two nodes, and virtual page 0 of space 0 leads to the page of four words
+use Rattle.std.specs.Prelude.{ℕ, List, [], ◌∷◌}
 use Rattle.plat_base.specs.Machine.{Machine, Program, robin}
-use Rattle.plat_base.specs.declared.policies.PolicyKind.TheVariants as policy
-use Rattle.plat_base.specs.declared.guests.Instr.TheVariants as instr
+use Rattle.plat_base.specs.declared.guests.Instr.{Instr}
+use Rattle.plat_base.specs.declared.policies.PolicyKind.{PolicyKind}
 
-abbrev pub switching_guest : Program
-switching_guest = record { space = 0; code = instr.Switch 3 ∷ []; labels = [] }
+abbrev pub guest : List Instr → Program
+guest code = record { space = 0; code = code; labels = [] }
 
-abbrev pub two_guests : Machine
-two_guests = record {
+-- word 0 starts with a given value
+abbrev pub tried : PolicyKind → (start : ℕ) → List Program → Machine
+tried policy start guests = record {
   nodes = 2;
-  frames = 1;
+  frames = 4;
   words = 4;
   pages = 1;
-  policy = policy.Place;
-  budget = 10;
+  policy = policy;
+  budget = 100;
   schedule = robin;
   distances = [];
-  entries = [];
-  inits = [];
-  guests = switching_guest ∷ switching_guest ∷ [];
+  entries = record { space = 0; vpage = 0; page = 0 } ∷ [];
+  inits = record { page = 0; word = 0; value = start } ∷ [];
+  guests = guests;
 }

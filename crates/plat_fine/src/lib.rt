@@ -1,11 +1,12 @@
-//! The run of single operations, event by event, on one thread. After `Fine::new` nothing takes memory. No guest may reach
-//! memory yet, and the policy has no daemon.
+//! The run of single operations, event by event, on one thread, whichever actor makes each of them. After `Fine::new` nothing
+//! takes memory.
 #![tactic(auto)]
 
 mod fines;
 mod stepping;
 
-pub use fines::{Fine, Went};
+pub use fines::Fine;
+pub use plat_daemon::Went;
 
 #[cfg(test)]
 mod tests;

@@ -1,11 +1,13 @@
-//! One event of one processor.
-ghost use Rattle.std.specs.Prelude.{◌≡◌, ◌<◌, false, length, slice_set};
+//! One event of one actor, and the item that it adds.
+ghost use Rattle.std.specs.Prelude.{◌≡◌, ◌<◌, false, length, Some, slice_get, slice_set};
 ghost use Rattle.plat_base.specs.Seen.{machine};
 ghost use Rattle.plat_events.specs.Places.{word_count};
 ghost use Rattle.plat_events.specs.Privates.{is_over};
+ghost use Rattle.plat_daemon.specs.Fits.{Fits, HasStepped};
 ghost use Rattle.plat_fine.specs.Crew.{HasMoved, IsCrew, item_since, proc_at};
 
 use plat_base::{Config, Item};
+use plat_daemon::Daemon;
 use plat_ports::VecPort;
 use plat_proc::Proc;
 
@@ -25,4 +27,19 @@ pub fn step(procs: &mut Vec<Proc>, cfg: &Config, port: &mut VecPort, q: u32) -> 
     let before = proc.journal().len();
     proc.step(cfg, port);
     proc.journal().get(before).copied()
+}
+
+/// The next event of the daemon, and the item that it adds, if any.
+pub fn sweep(daemon: &mut Daemon, cfg: &Config, port: &mut VecPort) -> Option<Item>
+    requires live { is_over daemon.old.place ≡ false }
+    requires fits { Fits (machine cfg.now) daemon.old }
+    requires words { length port.old ≡ word_count (machine cfg.now) }
+    ensures event { HasStepped (machine cfg.now) daemon.old daemon.new (Some port.old) (Some port.new) }
+    ensures item { result ≡ slice_get daemon.new.journal (length daemon.old.journal) }
+    ensures fits { Fits (machine cfg.now) daemon.new }
+    ensures words { length port.new ≡ word_count (machine cfg.now) }
+{
+    let before = daemon.journal().len();
+    daemon.step(cfg, port);
+    daemon.journal().get(before).copied()
 }

@@ -20,7 +20,8 @@ use Rattle.plat_merge.specs.declared.counts.PageCount.{PageCount}
 use Rattle.plat_merge.specs.declared.totals.Totals.{Totals}
 use Rattle.plat_merge.specs.Standing.{access_passes, is_load_of, is_load_at, is_use_at, is_write_at, changes_page, loads_waiting, uses_waiting, writes_waiting, may_access, may_change, may_stand}
 use Rattle.plat_merge.specs.Counts.{cell_of, no_word, no_page, word_at, page_at, is_within, stands_by, word_after, page_after, page_changed, ShowsCounts}
-use Rattle.plat_merge.specs.Placing.{total_at, loads_found, words_placed, pages_placed}
+use Rattle.plat_merge.specs.Keys.{total_at}
+use Rattle.plat_merge.specs.Placing.{loads_found, words_placed, pages_placed}
 use Rattle.plat_merge.proofs.StandLemmas.{one_if}
 use Rattle.plat_merge.proofs.StepLemmas.{flat_writes-more, seq_of-more, loads-step, uses-step, writes-step}
 
@@ -96,10 +97,10 @@ page-set_other pages page k v n = get_or-set_other pages page k v no_page n
 -- what the totals say of an item: how many loads find what it wrote, how many accesses go by what it granted
 abbrev pub FindsTotals : (page_words : ℕ) → Totals → (items : List Item) → Item → Type 0
 FindsTotals page_words t items (item.Access a) =
-    is_write a.kind ≡ true → total_at t.loads.items (cell_of page_words a.page a.word) a.version ≡ count_by (is_load_at a.page a.word a.version) items
+    is_write a.kind ≡ true → total_at t.loads (cell_of page_words a.page a.word) a.version ≡ count_by (is_load_at a.page a.word a.version) items
 FindsTotals page_words t items (item.Change d) =
-    (total_at t.uses.items d.page d.seq ≡ count_by (is_use_at d.page d.seq) items)
-    × (total_at t.writes.items d.page d.seq ≡ count_by (is_write_at d.page d.seq) items)
+    (total_at t.uses d.page d.seq ≡ count_by (is_use_at d.page d.seq) items)
+    × (total_at t.writes d.page d.seq ≡ count_by (is_write_at d.page d.seq) items)
 FindsTotals page_words t items (item.Applied x) = Unit {0}
 FindsTotals page_words t items (item.Switch s) = Unit {0}
 
@@ -176,13 +177,13 @@ module _
       inside = let l = mul-add-lt a.page m.words a.word m.pages p w in let size = shown.all_words in grind (arith)
 
       own-word :
-          (is_write a.kind ≡ true → total_at t.loads.items cell a.version ≡ count_by (is_load_at a.page a.word a.version) (placed ++ (front ++ i ∷ back)))
+          (is_write a.kind ≡ true → total_at t.loads cell a.version ≡ count_by (is_load_at a.page a.word a.version) (placed ++ (front ++ i ∷ back)))
           → ((word_at new_words cell).writes ≡ flat_writes (placed ++ i ∷ []) a.page a.word)
           × ((word_at new_words cell).loads ≡ loads_waiting (placed ++ i ∷ []) (front ++ back) a.page a.word)
       own-word finds =
           let both = word-numbers (is_write a.kind) (flat_writes placed a.page a.word) (loads_waiting placed (front ++ i ∷ back) a.page a.word)
           (flat_writes (placed ++ i ∷ []) a.page a.word) (loads_waiting (placed ++ i ∷ []) (front ++ back) a.page a.word)
-          (total_at t.loads.items cell a.version) (word_at words cell) (shown.writes a.page a.word p w) (shown.loads a.page a.word p w) more loads in
+          (total_at t.loads cell a.version) (word_at words cell) (shown.writes a.page a.word p w) (shown.loads a.page a.word p w) more loads in
           let here = word-set_same words cell (word_after a (loads_found m.words t a) (word_at words cell)) inside in
           (ap (λ (x : WordCount). x.writes) here ∙ both.0, ap (λ (x : WordCount). x.loads) here ∙ both.1)
         where
@@ -194,7 +195,7 @@ module _
           found :
               (b : Bool) → is_write a.kind ≡ b
               → (if b then count_by (is_load_at a.page a.word (flat_writes placed a.page a.word + 1)) (placed ++ (front ++ i ∷ back)) else 0)
-              ≡ (if b then total_at t.loads.items cell a.version else 0)
+              ≡ (if b then total_at t.loads cell a.version else 0)
           found true e =
               let version : a.version ≡ flat_writes placed a.page a.word + 1 =
               version-counts m answer placed a kept ∙ ap (λ (b : Bool). flat_writes placed a.page a.word + (if b then 1 else 0)) e in
@@ -203,7 +204,7 @@ module _
 
           loads :
               loads_waiting (placed ++ i ∷ []) (front ++ back) a.page a.word + one_if (not (is_write a.kind))
-              ≡ loads_waiting placed (front ++ i ∷ back) a.page a.word + (if is_write a.kind then total_at t.loads.items cell a.version else 0)
+              ≡ loads_waiting placed (front ++ i ∷ back) a.page a.word + (if is_write a.kind then total_at t.loads cell a.version else 0)
           loads =
               ap (λ b. loads_waiting (placed ++ i ∷ []) (front ++ back) a.page a.word + one_if b) (sym (own-cell_load (not (is_write a.kind)) a.page a.word))
               ∙ (loads-step m answer placed front back i start kept a.page a.word
@@ -228,7 +229,7 @@ module _
           )
 
       each-word :
-          (is_write a.kind ≡ true → total_at t.loads.items cell a.version ≡ count_by (is_load_at a.page a.word a.version) (placed ++ (front ++ i ∷ back)))
+          (is_write a.kind ≡ true → total_at t.loads cell a.version ≡ count_by (is_load_at a.page a.word a.version) (placed ++ (front ++ i ∷ back)))
           → (page word : ℕ) → page < m.pages → word < m.words
           → ((word_at new_words (cell_of m.words page word)).writes ≡ flat_writes (placed ++ i ∷ []) page word)
           × ((word_at new_words (cell_of m.words page word)).loads ≡ loads_waiting (placed ++ i ∷ []) (front ++ back) page word)
@@ -303,7 +304,7 @@ module _
           by (inr other) = other-page_counts page l other.0 other.1
 
       access-shown :
-          (is_write a.kind ≡ true → total_at t.loads.items cell a.version ≡ count_by (is_load_at a.page a.word a.version) (placed ++ (front ++ i ∷ back)))
+          (is_write a.kind ≡ true → total_at t.loads cell a.version ≡ count_by (is_load_at a.page a.word a.version) (placed ++ (front ++ i ∷ back)))
           → ShowsCounts m (placed ++ i ∷ []) (front ++ back) m.words new_words new_pages
       unfolding Counted
       access-shown finds = record {
@@ -374,11 +375,11 @@ module _
       changed-inside = omega (arith, p, shown.all_pages)
 
       own-change :
-          total_at t.uses.items d.page d.seq ≡ count_by (is_use_at d.page d.seq) (placed ++ (front ++ j ∷ back))
-          → total_at t.writes.items d.page d.seq ≡ count_by (is_write_at d.page d.seq) (placed ++ (front ++ j ∷ back)) → Changed d.page
+          total_at t.uses d.page d.seq ≡ count_by (is_use_at d.page d.seq) (placed ++ (front ++ j ∷ back))
+          → total_at t.writes d.page d.seq ≡ count_by (is_write_at d.page d.seq) (placed ++ (front ++ j ∷ back)) → Changed d.page
       unfolding Changed
       own-change all_uses all_writes =
-          let here = page-set_same pages d.page (page_changed (total_at t.uses.items d.page d.seq) (total_at t.writes.items d.page d.seq) (page_at pages d.page)) changed-inside in
+          let here = page-set_same pages d.page (page_changed (total_at t.uses d.page d.seq) (total_at t.writes d.page d.seq) (page_at pages d.page)) changed-inside in
           let same : (d.page == d.page) ≡ true = eq-eqb d.page d.page refl in
           let seq : d.seq ≡ seq_of placed d.page = seq-counts m answer placed d kept in
           let more = seq_of-more placed j d.page ∙ ap (λ b. seq_of placed d.page + one_if b) same in
@@ -391,23 +392,23 @@ module _
           ∙ ap (λ (b : Bool). writes_waiting placed (front ++ j ∷ back) d.page + (if b then count_by (is_write_at d.page (seq_of placed d.page)) (placed ++ (front ++ j ∷ back)) else 0)) same in
           let writes_found = all_writes ∙ ap (λ n. count_by (is_write_at d.page n) (placed ++ (front ++ j ∷ back))) seq in (
             ap (λ (x : PageCount). x.changes) here ∙ (ap (λ n. n + 1) (shown.changes d.page p) ∙ sym more),
-            ap (λ (x : PageCount). x.uses) here ∙ sum (page_at pages d.page).uses (uses_waiting placed (front ++ j ∷ back) d.page) (total_at t.uses.items d.page d.seq) (count_by (is_use_at d.page (seq_of placed d.page)) (placed ++ (front ++ j ∷ back))) (uses_waiting (placed ++ j ∷ []) (front ++ back) d.page) (shown.uses d.page p) uses_found uses,
-            ap (λ (x : PageCount). x.writes) here ∙ sum (page_at pages d.page).writes (writes_waiting placed (front ++ j ∷ back) d.page) (total_at t.writes.items d.page d.seq) (count_by (is_write_at d.page (seq_of placed d.page)) (placed ++ (front ++ j ∷ back))) (writes_waiting (placed ++ j ∷ []) (front ++ back) d.page) (shown.writing d.page p) writes_found writes,
+            ap (λ (x : PageCount). x.uses) here ∙ sum (page_at pages d.page).uses (uses_waiting placed (front ++ j ∷ back) d.page) (total_at t.uses d.page d.seq) (count_by (is_use_at d.page (seq_of placed d.page)) (placed ++ (front ++ j ∷ back))) (uses_waiting (placed ++ j ∷ []) (front ++ back) d.page) (shown.uses d.page p) uses_found uses,
+            ap (λ (x : PageCount). x.writes) here ∙ sum (page_at pages d.page).writes (writes_waiting placed (front ++ j ∷ back) d.page) (total_at t.writes d.page d.seq) (count_by (is_write_at d.page (seq_of placed d.page)) (placed ++ (front ++ j ∷ back))) (writes_waiting (placed ++ j ∷ []) (front ++ back) d.page) (shown.writing d.page p) writes_found writes,
           )
         where
           sum : (now was total found next : ℕ) → now ≡ was → total ≡ found → next + 0 ≡ was + found → now + total ≡ next
           sum now was total found next e f h = omega (arith, e, f, h)
 
       change-shown :
-          total_at t.uses.items d.page d.seq ≡ count_by (is_use_at d.page d.seq) (placed ++ (front ++ j ∷ back))
-          → total_at t.writes.items d.page d.seq ≡ count_by (is_write_at d.page d.seq) (placed ++ (front ++ j ∷ back))
+          total_at t.uses d.page d.seq ≡ count_by (is_use_at d.page d.seq) (placed ++ (front ++ j ∷ back))
+          → total_at t.writes d.page d.seq ≡ count_by (is_write_at d.page d.seq) (placed ++ (front ++ j ∷ back))
           → ShowsCounts m (placed ++ j ∷ []) (front ++ back) m.words words changed_pages
       unfolding Changed
       change-shown all_uses all_writes = record {
         same_words = refl;
         all_words = shown.all_words;
         all_pages =
-            length-set pages d.page (page_changed (total_at t.uses.items d.page d.seq) (total_at t.writes.items d.page d.seq) (page_at pages d.page))
+            length-set pages d.page (page_changed (total_at t.uses d.page d.seq) (total_at t.writes d.page d.seq) (page_at pages d.page))
             ∙ shown.all_pages;
         writes = λ page word l k. (same-word j kept shown (λ x y. refl) (λ x y. refl) page word l k).0;
         loads = λ page word l k. (same-word j kept shown (λ x y. refl) (λ x y. refl) page word l k).1;
@@ -423,7 +424,7 @@ module _
               by (inl same) = subst Changed same (own-change all_uses all_writes)
               by (inr other) =
                   same-page j kept shown page l other.1 (λ f. refl) (page_at changed_pages page)
-                  (page-set_other pages d.page page (page_changed (total_at t.uses.items d.page d.seq) (total_at t.writes.items d.page d.seq) (page_at pages d.page)) other.0)
+                  (page-set_other pages d.page page (page_changed (total_at t.uses d.page d.seq) (total_at t.writes d.page d.seq) (page_at pages d.page)) other.0)
 
     other-shown :
         (i : Item) → bad_rule m answer placed i ≡ None → Shown i → ((page word : ℕ) → writes_word page word i ≡ false)

@@ -1,6 +1,6 @@
 -- what has to be known before an item of a good history is placed: no count passes its bound
-use Rattle.std.specs.Prelude.{◌≡◌, ◌⊎◌, ℕ, suc, ◌+◌, ◌-◌, ◌<◌, ◌≤◌, nat_lt, if◌then◌else◌, Bool, true, false, List, [], ◌∷◌, ◌++◌, length, Option, Some, None}
-use Rattle.std.proofs.Common.{ap, sym, inl, inr, arith, subst}
+use Rattle.std.specs.Prelude.{◌≡◌, ◌⊎◌, ℕ, ◌+◌, ◌-◌, ◌<◌, ◌≤◌, ◌==◌, nat_lt, if◌then◌else◌, Bool, true, false, List, [], ◌∷◌, ◌++◌, length, count_by, Some, None}
+use Rattle.std.proofs.Common.{ap, sym, ◌∙◌, inl, inr, arith, subst}
 use Rattle.std.specs.List.{fold}
 use Rattle.std.proofs.lemmas.Bool.{cases_Bool, and_parts}
 use Rattle.std.proofs.lemmas.Bool.Decides.{nat_tests}
@@ -18,34 +18,58 @@ use Rattle.plat_merge.specs.declared.counts.WordCount.{WordCount}
 use Rattle.plat_merge.specs.declared.counts.PageCount.{PageCount}
 use Rattle.plat_merge.specs.declared.counts.Counts.{Counts}
 use Rattle.plat_merge.specs.declared.totals.Totals.{Totals}
-use Rattle.plat_merge.specs.Standing.{is_load_up_to, is_use_below, is_write_below}
+use Rattle.plat_merge.specs.Standing.{changes_page, is_load_up_to, is_use_below, is_write_below}
 use Rattle.plat_merge.specs.Counts.{cell_of, word_at, page_at, is_within, word_after, page_changed, ShowsCounts}
-use Rattle.plat_merge.specs.Placing.{total_at, loads_found, CanAccess, CanChange, CanPlace, words_placed, pages_placed}
+use Rattle.plat_merge.specs.Keys.{total_at}
+use Rattle.plat_merge.specs.Placing.{loads_found, CanAccess, CanChange, CanPlace, words_placed, pages_placed}
+use Rattle.plat_merge.proofs.StandLemmas.{one_if}
+use Rattle.plat_merge.proofs.StepLemmas.{count-cons}
 use Rattle.plat_merge.proofs.CountLemmas.{word-set_same, page-set_same}
 
--- ---- counts are at most the number of items
+-- ---- counts of writes and of changes
 
-pub writes-most : (page word n : ℕ) (xs : List Item) → fold (λ k i. if writes_word page word i then k + 1 else k) n xs ≤ n + length xs
-writes-most page word n [] = omega arith
-writes-most page word n (x ∷ xs) = by (writes_word page word x) (writes-most page word (n + 1) xs) (writes-most page word n xs)
+pub writes-counted :
+    (page word n : ℕ) (xs : List Item) → fold (λ k i. if writes_word page word i then k + 1 else k) n xs ≡ n + count_by (writes_word page word) xs
+writes-counted page word n [] = omega arith
+writes-counted page word n (x ∷ xs) =
+    by (writes_word page word x) (writes-counted page word (n + 1) xs) (writes-counted page word n xs)
+    ∙ ap (λ k. n + k) (sym (count-cons (writes_word page word) x xs))
   where
     by :
-        (b : Bool) → fold (λ k i. if writes_word page word i then k + 1 else k) (n + 1) xs ≤ n + 1 + length xs
-        → fold (λ k i. if writes_word page word i then k + 1 else k) n xs ≤ n + length xs
-        → fold (λ k i. if writes_word page word i then k + 1 else k) (if b then n + 1 else n) xs ≤ n + suc (length xs)
+        (b : Bool) → fold (λ k i. if writes_word page word i then k + 1 else k) (n + 1) xs ≡ n + 1 + count_by (writes_word page word) xs
+        → fold (λ k i. if writes_word page word i then k + 1 else k) n xs ≡ n + count_by (writes_word page word) xs
+        → fold (λ k i. if writes_word page word i then k + 1 else k) (if b then n + 1 else n) xs ≡ n + (one_if b + count_by (writes_word page word) xs)
     by true h k = omega (arith, h)
     by false h k = omega (arith, k)
 
-pub seq-most : (page n : ℕ) (xs : List Item) → fold (λ k i. seq_after k (change_of page i)) n xs ≤ n + length xs
-seq-most page n [] = omega arith
-seq-most page n (x ∷ xs) = by (change_of page x) (seq-most page (n + 1) xs) (seq-most page n xs)
+pub seq-counted : (page n : ℕ) (xs : List Item) → fold (λ k i. seq_after k (change_of page i)) n xs ≡ n + count_by (changes_page page) xs
+seq-counted page n [] = omega arith
+seq-counted page n (x ∷ xs) =
+    by x (seq-counted page (n + 1) xs) (seq-counted page n xs)
+    ∙ ap (λ k. n + k) (sym (count-cons (changes_page page) x xs))
   where
+    by_page :
+        (b : Bool) (c : Change) → fold (λ k i. seq_after k (change_of page i)) (n + 1) xs ≡ n + 1 + count_by (changes_page page) xs
+        → fold (λ k i. seq_after k (change_of page i)) n xs ≡ n + count_by (changes_page page) xs
+        → fold (λ k i. seq_after k (change_of page i)) (seq_after n (if b then Some c else None)) xs ≡ n + (one_if b + count_by (changes_page page) xs)
+    by_page true c h k = omega (arith, h)
+    by_page false c h k = omega (arith, k)
+
     by :
-        (o : Option Change) → fold (λ k i. seq_after k (change_of page i)) (n + 1) xs ≤ n + 1 + length xs
-        → fold (λ k i. seq_after k (change_of page i)) n xs ≤ n + length xs
-        → fold (λ k i. seq_after k (change_of page i)) (seq_after n o) xs ≤ n + suc (length xs)
-    by (Some c) h k = omega (arith, h)
-    by None h k = omega (arith, k)
+        (x : Item) → fold (λ k i. seq_after k (change_of page i)) (n + 1) xs ≡ n + 1 + count_by (changes_page page) xs
+        → fold (λ k i. seq_after k (change_of page i)) n xs ≡ n + count_by (changes_page page) xs
+        → fold (λ k i. seq_after k (change_of page i)) (seq_after n (change_of page x)) xs ≡ n + (one_if (changes_page page x) + count_by (changes_page page) xs)
+    by (item.Access a) h k = omega (arith, k)
+    by (item.Change c) h k = by_page (c.page == page) c h k
+    by (item.Applied y) h k = omega (arith, k)
+    by (item.Switch s) h k = omega (arith, k)
+
+-- they are at most the number of items
+writes-most : (page word : ℕ) (xs : List Item) → flat_writes xs page word ≤ length xs
+writes-most page word xs = omega (arith, writes-counted page word 0 xs, count_by-le-length (writes_word page word) xs)
+
+seq-most : (page : ℕ) (xs : List Item) → seq_of xs page ≤ length xs
+seq-most page xs = omega (arith, seq-counted page 0 xs, count_by-le-length (changes_page page) xs)
 
 below : (a b : ℕ) → nat_lt a b ≡ true → a < b
 below a b h = grind (arith, nat_tests)
@@ -70,7 +94,7 @@ module _ (m : Machine) (c : Counts) (t : Totals) (placed left rest : List Item) 
       inside = let l = mul-add-lt a.page m.words a.word m.pages p w in let all = shows.all_words in grind (arith)
 
       writes_few : (word_at c.words.items (cell_of m.words a.page a.word)).writes < MOST_ITEMS
-      writes_few = omega (arith, shows.writes a.page a.word p w, writes-most a.page a.word 0 placed, few)
+      writes_few = omega (arith, shows.writes a.page a.word p w, writes-most a.page a.word placed, few)
 
       then-loads : (word_after a (loads_found m.words t a) (word_at c.words.items (cell_of m.words a.page a.word))).loads ≤ length rest
       then-loads =
@@ -88,7 +112,7 @@ module _ (m : Machine) (c : Counts) (t : Totals) (placed left rest : List Item) 
           ap (λ (b : Bool). (after_of b (loads_found m.words t a) (word_at c.words.items (cell_of m.words a.page a.word))).loads) writes in
           omega (arith, sum, then-loads, few)
       by (inr load) =
-          let none : loads_found m.words t a ≡ 0 = ap (λ (b : Bool). if b then total_at t.loads.items (cell_of m.words a.page a.word) a.version else 0) load in
+          let none : loads_found m.words t a ≡ 0 = ap (λ (b : Bool). if b then total_at t.loads (cell_of m.words a.page a.word) a.version else 0) load in
           omega (arith, none, now-loads, few, size)
 
   can-change :
@@ -96,7 +120,7 @@ module _ (m : Machine) (c : Counts) (t : Totals) (placed left rest : List Item) 
       → d.page < m.pages → CanChange c t d
   can-change d next p = record {
     page = inside;
-    few = omega (arith, shows.changes d.page p, seq-most d.page 0 placed, few);
+    few = omega (arith, shows.changes d.page p, seq-most d.page placed, few);
     all_uses =
         let here = ap (λ (x : PageCount). x.uses) set in
         omega (arith, here, next.uses d.page p, count_by-le-length (is_use_below d.page (seq_of (placed ++ item.Change d ∷ []) d.page)) rest, few);
@@ -110,8 +134,8 @@ module _ (m : Machine) (c : Counts) (t : Totals) (placed left rest : List Item) 
 
       set :
           page_at (pages_placed t c.pages.items (item.Change d)) d.page
-          ≡ page_changed (total_at t.uses.items d.page d.seq) (total_at t.writes.items d.page d.seq) (page_at c.pages.items d.page)
-      set = page-set_same c.pages.items d.page (page_changed (total_at t.uses.items d.page d.seq) (total_at t.writes.items d.page d.seq) (page_at c.pages.items d.page)) inside
+          ≡ page_changed (total_at t.uses d.page d.seq) (total_at t.writes d.page d.seq) (page_at c.pages.items d.page)
+      set = page-set_same c.pages.items d.page (page_changed (total_at t.uses d.page d.seq) (total_at t.writes d.page d.seq) (page_at c.pages.items d.page)) inside
 
 pub can-place :
     (m : Machine) (c : Counts) (t : Totals) (placed left rest : List Item) (i : Item) → c.page_words ≡ m.words

@@ -34,8 +34,8 @@ use Rattle.plat_merge.proofs.StandLemmas.{one_if, none-count}
 use Rattle.plat_merge.proofs.StepLemmas.{count-split}
 use Rattle.plat_merge.proofs.HeadLemmas.{left-start}
 use Rattle.plat_merge.specs.RoomSeen.{HaveGoodHistory}
-use Rattle.plat_merge.proofs.TotalLemmas.{small-all}
-use Rattle.plat_merge.proofs.UnderWay.{is_small, KnowsTotals, IsUnderWay, none-ready, merged-next, size-next, under_way-next, can-place-next, within-head}
+use Rattle.plat_merge.proofs.TotalLemmas.{within-all}
+use Rattle.plat_merge.proofs.UnderWay.{KnowsTotals, IsUnderWay, none-ready, merged-next, size-next, under_way-next, can-place-next, within-head}
 
 -- ---- the start
 
@@ -77,7 +77,7 @@ first-version page word items =
 pub start-shown :
     (m : Machine) (t : Totals) (items : List Item) (words : List WordCount) (pages : List PageCount) → KnowsTotals m t items
     → length words ≡ m.pages * m.words → pages ≡ replicate m.pages no_page
-    → ((cell : ℕ) → cell < length words → word_at words cell ≡ first_count t.loads.items cell)
+    → ((cell : ℕ) → cell < length words → word_at words cell ≡ first_count t.loads cell)
     → ShowsCounts m [] items m.words words pages
 start-shown m t items words pages knows size blank noted = record {
   same_words = refl;
@@ -86,7 +86,7 @@ start-shown m t items words pages knows size blank noted = record {
   writes = λ page word p w. ap (λ (x : WordCount). x.writes) (noted (cell_of m.words page word) (inside page word p w));
   loads = λ page word p w.
       ap (λ (x : WordCount). x.loads) (noted (cell_of m.words page word) (inside page word p w))
-      ∙ (knows.loads page word 0 p w (omega arith) ∙ sym (first-version page word items));
+      ∙ (knows.loads page word 0 p w ∙ sym (first-version page word items));
   changes = λ page p. ap (λ (x : PageCount). x.changes) (empty page p);
   uses = λ page p. ap (λ (x : PageCount). x.uses) (empty page p) ∙ sym (none-count (is_use_below page 0) items (none-below (λ a. a.page == page) items));
   writing = λ page p.
@@ -151,11 +151,11 @@ merging-next m t journals next placed words pages most u a i h chosen lower here
 -- a merge begins
 pub merging-start :
     (m : Machine) (answer : Answer) (t : Totals) (journals : Journals) (items : List Item) (words : List WordCount) (pages : List PageCount) (k most : ℕ)
-    → HasJournals items journals → AllKept m answer [] items → list_all (is_small m) items ≡ true → KnowsTotals m t items
+    → HasJournals items journals → AllKept m answer [] items → list_all (is_within m.pages m.words) items ≡ true → KnowsTotals m t items
     → ShowsCounts m [] items m.words words pages → items_left journals ≤ most
     → IsMerging m t journals (replicate k 0) [] words pages most
 unfolding merged
-merging-start m answer t journals items words pages k most has kept small knows shows few = record {
+merging-start m answer t journals items words pages k most has kept within knows shows few = record {
   answer = answer;
   way = record {
     items = items;
@@ -163,7 +163,7 @@ merging-start m answer t journals items words pages k most has kept small knows 
     start = tt;
     kept = kept;
     shows = shows;
-    small = small;
+    within = within;
     totals = knows;
   };
   whole = ap (λ n. merge_from n journals) (items_left-length items journals has) ∙ ap (merge_from (length items)) (sym (left-start journals k));
@@ -209,22 +209,19 @@ all-journals p (j ∷ js) h =
 lt-more : (a b c : ℕ) → nat_lt a b ≡ true → b ≤ c → nat_lt a c ≡ true
 lt-more a b c h l = grind (arith, nat_tests)
 
-small-within : (m : Machine) → m.pages ≤ 64 → (i : Item) → is_small m i ≡ true → is_within 64 m.words i ≡ true
-small-within m few (item.Access a) h =
-    let all = and_parts (nat_lt a.page m.pages && nat_lt a.word m.words && nat_lt a.version 4294967296) (nat_lt a.grant 4294967296) h in
-    let parts = and_parts (nat_lt a.page m.pages && nat_lt a.word m.words) (nat_lt a.version 4294967296) all.0 in
-    let both = and_parts (nat_lt a.page m.pages) (nat_lt a.word m.words) parts.0 in
-    rw (lt-more a.page m.pages 64 both.0 few, both.1) refl
-small-within m few (item.Change c) h = lt-more c.page m.pages 64 (and_parts (nat_lt c.page m.pages) (nat_lt c.seq 4294967296) h).0 few
-small-within m few (item.Applied x) h = refl
-small-within m few (item.Switch s) h = refl
+within-more : (m : Machine) → m.pages ≤ 64 → (i : Item) → is_within m.pages m.words i ≡ true → is_within 64 m.words i ≡ true
+within-more m few (item.Access a) h =
+    let both = and_parts (nat_lt a.page m.pages) (nat_lt a.word m.words) h in rw (lt-more a.page m.pages 64 both.0 few, both.1) refl
+within-more m few (item.Change c) h = lt-more c.page m.pages 64 h few
+within-more m few (item.Applied x) h = refl
+within-more m few (item.Switch s) h = refl
 
 pub record AreMergeable (m : Machine) (journals : Journals) : Type 0 where
   pub answer : Answer
   pub items : List Item
   pub has : HasJournals items journals
   pub kept : AllKept m answer [] items
-  pub small : list_all (is_small m) items ≡ true
+  pub items_within : list_all (is_within m.pages m.words) items ≡ true
   pub within : list_all (list_all (is_within 64 m.words)) journals ≡ true
   pub left : items_left journals ≤ sum (journal_rooms m)
   pub few : sum (journal_rooms m) ≤ 2621440
@@ -235,19 +232,18 @@ mergeable m journals limits good fits =
     let kept = kept-from m good.answer [] 0 good.items (whole_kept m good.answer good.items good.ends good.good) in
     let left = lengths-most (journal_rooms m) journals fits in
     let few = journal_rooms-most m limits in
-    let size = items_left-length good.items journals good.has in
-    let small = small-all m good.answer [] good.items tt kept (omega (arith, size, left, few)) in
+    let inside = within-all m good.answer [] good.items kept in
     let l : Limits m = limits_of m limits in
     record {
       answer = good.answer;
       items = good.items;
       has = good.has;
       kept = kept;
-      small = small;
+      items_within = inside;
       within =
           all-journals (is_within 64 m.words) journals
           (journals-none good.items journals good.has (λ i. not (is_within 64 m.words i))
-          (none-from_all (is_small m) (is_within 64 m.words) (small-within m l.pages_most) good.items small));
+          (none-from_all (is_within m.pages m.words) (is_within 64 m.words) (within-more m l.pages_most) good.items inside));
       left = left;
       few = few;
       lists = sym (pointwise_long (λ room (l : List Item). nat_le (length l) room) (journal_rooms m) journals fits);

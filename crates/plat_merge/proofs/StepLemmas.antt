@@ -63,7 +63,7 @@ passes-split f g h each (item.Switch s) = refl
 -- ---- what is placed has no later version and no later grant
 
 module _ (m : Machine) (answer : Answer) where
-  load-past :
+  pub load-past :
       (page word n : ℕ) (before xs : List Item) → AllKept m answer [] before → AllKept m answer before xs
       → flat_writes (before ++ xs) page word ≤ n → list_any (is_load_at page word (n + 1)) xs ≡ false
   unfolding FitsVersion
@@ -89,7 +89,7 @@ module _ (m : Machine) (answer : Answer) where
       one (item.Applied y) here below = refl
       one (item.Switch s) here below = refl
 
-  grant-past :
+  pub grant-past :
       (pass : Access → Bool) (page n : ℕ) → ((a : Access) → pass a ≡ true → a.page ≡ page) → (before xs : List Item)
       → AllKept m answer [] before → AllKept m answer before xs → seq_of (before ++ xs) page ≤ n
       → list_any (access_passes (λ a. pass a && a.grant == n)) xs ≡ false

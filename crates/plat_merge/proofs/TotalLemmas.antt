@@ -1,21 +1,18 @@
--- the sorted keys of the journals of a good history say how many items wait for one
-use Rattle.std.specs.Prelude.{◌≡◌, ◌⊎◌, ℕ, zero, suc, ◌+◌, ◌<◌, ◌≤◌, ◌==◌, nat_lt, ◌&&◌, not, if◌then◌else◌, Bool, true, false, List, [], ◌∷◌, ◌++◌, length, drop, count_by, sum_by, Option, Some, None, slice_index_or}
-use Rattle.std.proofs.Common.{refl, ap, sym, ◌∙◌, inl, inr, arith}
-use Rattle.std.specs.List.{list_all, cons_option}
-use Rattle.std.specs.List.Sorted.{IsPermutation}
+-- the tables of the journals of a good history say how many items wait for one
+use Rattle.std.specs.Prelude.{◌≡◌, ◌⊎◌, ℕ, zero, suc, ◌+◌, ◌-◌, ◌*◌, ◌<◌, ◌≤◌, ◌==◌, nat_lt, ◌&&◌, not, if◌then◌else◌, Bool, true, false, List, [], ◌∷◌, ◌++◌, length, drop, count_by, sum_by, Some, None, slice_index, slice_index_or}
+use Rattle.std.proofs.Common.{refl, ap, sym, ◌∙◌, inl, inr, arith, subst}
+use Rattle.std.specs.List.{list_all, list_any}
 use Rattle.std.specs.Option.{option_map_or}
 use Rattle.std.proofs.lemmas.Bool.{cases_Bool, and_parts, eqb-true, eq-eqb, true≢false}
 use Rattle.std.proofs.lemmas.Bool.Decides.{nat_tests}
-use Rattle.std.proofs.lemmas.List.{length-append}
 use Rattle.std.proofs.lemmas.List.Sums.{sum_by-cons, sum_by-set}
-use Rattle.std.proofs.lemmas.List.Sorted.{sum_by-IsPermutation}
-use Rattle.std.proofs.lemmas.Nat.{same_from_place}
+use Rattle.std.proofs.lemmas.Nat.{same_from_place, mul-add-lt}
 use Rattle.plat_base.specs.Verdicts.{Answer}
 use Rattle.plat_base.specs.Machine.{Machine}
 use Rattle.plat_base.specs.Accesses.{writes_made}
-use Rattle.plat_base.specs.Flat.{is_write, flat_value, flat_writes}
+use Rattle.plat_base.specs.Flat.{is_write, flat_value, writes_word, flat_writes}
+use Rattle.plat_base.specs.Directories.{seq_of}
 use Rattle.plat_base.specs.Rules.{bad_rule, is_chained}
-use Rattle.plat_base.specs.declared.items.Access.{Access}
 use Rattle.plat_base.specs.declared.items.Item.{Item}
 use Rattle.plat_base.specs.declared.items.Item.TheVariants as item
 use Rattle.plat_base.specs.declared.statuses.Rule.TheVariants as rule
@@ -24,85 +21,40 @@ use Rattle.plat_events.specs.Merges.{Journals, without_next}
 use Rattle.plat_laws.proofs.AccessLaws.{access_parts, kept_rule}
 use Rattle.plat_laws.proofs.ChangeLaws.{good_change}
 use Rattle.plat_merge_laws.specs.Merging.{HasJournals}
-use Rattle.plat_merge_laws.proofs.NeighbourLemmas.{version-counts}
 use Rattle.plat_merge_laws.proofs.JournalLemmas.{journals-without}
-use Rattle.plat_merge_laws.proofs.MergeLaws.{AllKept, kept-append, current-after}
+use Rattle.plat_merge_laws.proofs.MergeLaws.{AllKept}
 use Rattle.plat_merge.specs.declared.keys.Counted.{Counted}
 use Rattle.plat_merge.specs.declared.keys.Counted.TheVariants as counted
-use Rattle.plat_merge.specs.Standing.{is_load_at, is_use_at, is_write_at}
-use Rattle.plat_merge.specs.Counts.{cell_of}
-use Rattle.plat_merge.specs.Keys.{key_at, item_key, keys_of, all_keys, how_many}
-use Rattle.plat_merge.proofs.StandLemmas.{one_if, kept-numbers}
-use Rattle.plat_merge.proofs.StepLemmas.{count-append, count-cons}
+use Rattle.plat_merge.specs.declared.totals.Table.{Table}
 use Rattle.plat_merge.specs.declared.totals.Totals.{Totals}
-use Rattle.plat_merge.proofs.PlaceLemmas.{writes-most, seq-most}
-use Rattle.plat_merge.proofs.UnderWay.{is_small, KnowsTotals}
+use Rattle.plat_merge.specs.Standing.{is_load_at, is_use_at, is_write_at, changes_page}
+use Rattle.plat_merge.specs.Counts.{cell_of, is_within}
+use Rattle.plat_merge.specs.Keys.{key_at, has_key, number_at, total_at, AreStarts, IsFilled, HaveRows, AreFilled}
+use Rattle.plat_merge.proofs.StandLemmas.{one_if, none-count}
+use Rattle.plat_merge.proofs.StepLemmas.{count-cons, load-past, grant-past}
+use Rattle.plat_merge.proofs.KeyLemmas.{starts-more, starts-within, rows-apart}
+use Rattle.plat_merge.proofs.PlaceLemmas.{writes-counted, seq-counted}
+use Rattle.plat_merge.proofs.UnderWay.{KnowsTotals}
 
--- ---- the numbers of a good history are small
-
-made-most : (w : Bool) → (if w then 1 else 0) ≤ 1
-made-most true = omega arith
-made-most false = omega arith
+-- ---- the items of a good history are within the machine
 
 lt-test : (a b : ℕ) → a < b → nat_lt a b ≡ true
 lt-test a b h = grind (arith, nat_tests)
 
-small-one :
-    (m : Machine) (answer : Answer) (before : List Item) (i : Item) → AllKept m answer [] before → bad_rule m answer before i ≡ None
-    → length before + 1 < 4294967296 → is_small m i ≡ true
-small-one m answer before (item.Access a) start kept few =
+within-one : (m : Machine) (answer : Answer) (before : List Item) (i : Item) → bad_rule m answer before i ≡ None → is_within m.pages m.words i ≡ true
+within-one m answer before (item.Access a) kept =
     let legal = (access_parts m answer before a kept).2 in
     let three = and_parts (nat_lt a.page m.pages && nat_lt a.word m.words && a.old == flat_value m before a.page a.word) (a.version == flat_writes before a.page a.word + writes_made a.kind) legal in
-    let two = and_parts (nat_lt a.page m.pages && nat_lt a.word m.words) (a.old == flat_value m before a.page a.word) three.0 in
-    let count = writes-most a.page a.word 0 before in
-    let low : a.version < 4294967296 = omega (arith, version-counts m answer before a kept, count, made-most (is_write a.kind), few) in
-    let granted = (kept-numbers before m answer (item.Access a) (current-after m answer before start) kept).0 in
-    let grants = seq-most a.page 0 before in
-    let under : a.grant < 4294967296 = omega (arith, granted, grants, few) in
-    rw (two.0, lt-test a.version 4294967296 low, lt-test a.grant 4294967296 under) refl
-small-one m answer before (item.Change c) start kept few =
-    let good = good_change m answer before c (kept_rule (is_chained m answer before c) rule.Chain kept) in
-    let count = seq-most c.page 0 before in
-    let low : c.seq < 4294967296 = omega (arith, good.seq, count, few) in
-    rw (lt-test c.page m.pages good.page, lt-test c.seq 4294967296 low) refl
-small-one m answer before (item.Applied x) start kept few = refl
-small-one m answer before (item.Switch s) start kept few = refl
+    (and_parts (nat_lt a.page m.pages && nat_lt a.word m.words) (a.old == flat_value m before a.page a.word) three.0).0
+within-one m answer before (item.Change c) kept =
+    lt-test c.page m.pages (good_change m answer before c (kept_rule (is_chained m answer before c) rule.Chain kept)).page
+within-one m answer before (item.Applied x) kept = refl
+within-one m answer before (item.Switch s) kept = refl
 
-pub small-all :
-    (m : Machine) (answer : Answer) (before xs : List Item) → AllKept m answer [] before → AllKept m answer before xs
-    → length before + length xs < 4294967296 → list_all (is_small m) xs ≡ true
-small-all m answer before [] start kept few = refl
-small-all m answer before (x ∷ xs) start kept few =
-    rw (small-one m answer before x start kept.0 (omega (arith, few)))
-    (small-all m answer (before ++ x ∷ []) xs (kept-append m answer [] before (x ∷ []) start (kept.0, tt)) kept.1 (omega (arith, few, length-append before (x ∷ []))))
-
--- ---- keys, counted
-
-has_key : Counted → (page_words key : ℕ) → Item → Bool
-has_key which page_words key i = option_map_or (λ k. k == key) (item_key which page_words i) false
-
-keys-counted :
-    (which : Counted) (page_words key : ℕ) (items : List Item)
-    → how_many (keys_of which page_words items) key ≡ count_by (has_key which page_words key) items
-unfolding has_key
-keys-counted which page_words key [] = refl
-keys-counted which page_words key (i ∷ items) =
-    by (item_key which page_words i) (keys-counted which page_words key items)
-    ∙ sym (count-cons (has_key which page_words key) i items)
-  where
-    by :
-        (o : Option ℕ) → how_many (keys_of which page_words items) key ≡ count_by (has_key which page_words key) items
-        → how_many (cons_option o (keys_of which page_words items)) key ≡ one_if (option_map_or (λ k. k == key) o false) + count_by (has_key which page_words key) items
-    by None h = omega (arith, h)
-    by (Some k) h = omega (arith, h, count-cons (λ x. x == key) k (keys_of which page_words items))
-
--- a number of all journals together
-all-keys_counted :
-    (which : Counted) (page_words key : ℕ) (journals : Journals)
-    → how_many (all_keys which page_words journals) key ≡ sum_by (λ (j : List Item). count_by (has_key which page_words key) j) journals
-all-keys_counted which page_words key [] = refl
-all-keys_counted which page_words key (j ∷ js) =
-    omega (arith, count-append (λ k. k == key) (keys_of which page_words j) (all_keys which page_words js), keys-counted which page_words key j, all-keys_counted which page_words key js, sum_by-cons (λ (j : List Item). count_by (has_key which page_words key) j) j js)
+pub within-all :
+    (m : Machine) (answer : Answer) (before xs : List Item) → AllKept m answer before xs → list_all (is_within m.pages m.words) xs ≡ true
+within-all m answer before [] kept = refl
+within-all m answer before (x ∷ xs) kept = rw (within-one m answer before x kept.0) (within-all m answer (before ++ x ∷ []) xs kept.1)
 
 -- ---- a count over all journals is one over the items
 
@@ -133,23 +85,7 @@ journals-counted f (i ∷ items) journals has =
     let rest = journals-counted f items (without_next journals (actor_of i)) (journals-without i items journals has) in
     omega (arith, taken, whole, fewer, rest, count-cons f i items)
 
--- ---- what a key says of an item
-
-same-key : (row place r p : ℕ) → place < 4294967296 → p < 4294967296 → (key_at r p == key_at row place) ≡ (r == row && p == place)
-same-key row place r p l k = by (cases_Bool (key_at r p == key_at row place)) (cases_Bool (r == row && p == place))
-  where
-    by :
-        ((key_at r p == key_at row place) ≡ true) ⊎ ((key_at r p == key_at row place) ≡ false)
-        → ((r == row && p == place) ≡ true) ⊎ ((r == row && p == place) ≡ false) → (key_at r p == key_at row place) ≡ (r == row && p == place)
-    by (inl x) (inl y) = x ∙ sym y
-    by (inr x) (inr y) = x ∙ sym y
-    by (inl x) (inr y) =
-        let both = same_from_place r p row place 4294967296 k l (eqb-true (key_at r p) (key_at row place) x) in
-        absurd (true≢false (sym (rw (eq-eqb r row both.0, eq-eqb p place both.1) refl) ∙ y))
-    by (inr x) (inl y) =
-        let both = and_parts (r == row) (p == place) y in
-        let e : key_at r p ≡ key_at row place = ap (λ z. key_at z p) (eqb-true r row both.0) ∙ ap (key_at row) (eqb-true p place both.1) in
-        absurd (true≢false (sym (eq-eqb (key_at r p) (key_at row place) e) ∙ x))
+-- ---- where a place of a row stands
 
 same-cell : (W page word p w : ℕ) → word < W → w < W → (cell_of W p w == cell_of W page word) ≡ (p == page && w == word)
 same-cell W page word p w l k = by (cases_Bool (cell_of W p w == cell_of W page word)) (cases_Bool (p == page && w == word))
@@ -167,6 +103,64 @@ same-cell W page word p w l k = by (cases_Bool (cell_of W p w == cell_of W page 
         let e : cell_of W p w ≡ cell_of W page word = ap (λ z. cell_of W z w) (eqb-true p page both.0) ∙ ap (cell_of W page) (eqb-true w word both.1) in
         absurd (true≢false (sym (eq-eqb (cell_of W p w) (cell_of W page word) e) ∙ x))
 
+below : (a b : ℕ) → nat_lt a b ≡ true → a < b
+below a b h = grind (arith, nat_tests)
+
+not-below : (a b : ℕ) → nat_lt a b ≡ false → b ≤ a
+not-below a b h = grind (arith, nat_tests)
+
+lower-differs : (a b : ℕ) → a < b → (a == b) ≡ false
+lower-differs a b h = grind (arith, nat_tests)
+
+higher-differs : (a b : ℕ) → b < a → (a == b) ≡ false
+higher-differs a b h = grind (arith, nat_tests)
+
+higher : (a b : ℕ) → (a == b) ≡ false → nat_lt a b ≡ false → b < a
+higher a b h k = grind (arith, nat_tests)
+
+plus-same : (n p q : ℕ) → (n + p == n + q) ≡ (p == q)
+plus-same n p q = grind (arith, nat_tests)
+
+-- the place of one row is that of no other
+same-key :
+    (sizes starts : List ℕ) → AreStarts sizes starts → (row place r p : ℕ) → row + 1 < length sizes → r + 1 < length sizes
+    → slice_index starts row + place < slice_index starts (row + 1)
+    → option_map_or (λ k. k == slice_index starts row + place) (key_at starts r p) false ≡ (r == row && p == place)
+same-key sizes starts are row place r p l k inside = by (cases_Bool (r == row))
+  where
+    fits : ℕ → Bool
+    fits x = nat_lt (slice_index starts x + p) (slice_index starts (x + 1))
+
+    found : Bool → ℕ → Bool
+    found b x = option_map_or (λ k. k == slice_index starts row + place) (if b then Some (slice_index starts x + p) else None) false
+
+    own : (b : Bool) → fits row ≡ b → found b row ≡ (p == place)
+    own true h = plus-same (slice_index starts row) p place
+    own false h =
+        let past = not-below (slice_index starts row + p) (slice_index starts (row + 1)) h in
+        sym (higher-differs p place (omega (arith, past, inside)))
+
+    other : (b : Bool) → fits r ≡ b → (r == row) ≡ false → found b r ≡ false
+    other false h apart = refl
+    other true h apart = order (nat_lt r row) refl
+      where
+        here : slice_index starts r + p < slice_index starts (r + 1)
+        here = below (slice_index starts r + p) (slice_index starts (r + 1)) h
+
+        order : (b : Bool) → nat_lt r row ≡ b → (slice_index starts r + p == slice_index starts row + place) ≡ false
+        order true e =
+            let before = rows-apart sizes starts are r row (below r row e) (omega (arith, l)) in
+            lower-differs (slice_index starts r + p) (slice_index starts row + place) (omega (arith, here, before))
+        order false e =
+            let after = rows-apart sizes starts are row r (higher r row apart e) (omega (arith, k)) in
+            higher-differs (slice_index starts r + p) (slice_index starts row + place) (omega (arith, inside, after))
+
+    by : ((r == row) ≡ true) ⊎ ((r == row) ≡ false) → option_map_or (λ k. k == slice_index starts row + place) (key_at starts r p) false ≡ (r == row && p == place)
+    by (inl same) =
+        let e : r ≡ row = eqb-true r row same in
+        ap (λ x. found (fits x) x) e ∙ (own (fits row) refl ∙ ap (λ (b : Bool). b && p == place) (sym same))
+    by (inr apart) = other (fits r) refl apart ∙ ap (λ (b : Bool). b && p == place) (sym apart)
+
 -- a count of two tests that agree on all items
 count-alike : {A : Type 0} (small f g : A → Bool) → ((x : A) → small x ≡ true → f x ≡ g x) → (xs : List A) → list_all small xs ≡ true → count_by f xs ≡ count_by g xs
 count-alike small f g each [] h = refl
@@ -176,83 +170,185 @@ count-alike small f g each (x ∷ xs) h =
     let here : one_if (f x) ≡ one_if (g x) = ap one_if (each x parts.0) in
     omega (arith, count-cons f x xs, count-cons g x xs, rest, here)
 
-module _ (m : Machine) where
-  -- the parts of a small access
-  abbrev SmallParts : Access → Type 0
-  SmallParts a = (a.page < m.pages) × (a.word < m.words) × (a.version < 4294967296) × (a.grant < 4294967296)
+-- ---- how many items a row has as its own
 
-  small-parts : (a : Access) → is_small m (item.Access a) ≡ true → SmallParts a
-  small-parts a h =
-      let all = and_parts (nat_lt a.page m.pages && nat_lt a.word m.words && nat_lt a.version 4294967296) (nat_lt a.grant 4294967296) h in
-      let parts = and_parts (nat_lt a.page m.pages && nat_lt a.word m.words) (nat_lt a.version 4294967296) all.0 in
-      let both = and_parts (nat_lt a.page m.pages) (nat_lt a.word m.words) parts.0 in
-      (test a.page m.pages both.0, test a.word m.words both.1, test a.version 4294967296 parts.1, test a.grant 4294967296 all.1)
+module _ (m : Machine) (items : List Item) (within : list_all (is_within m.pages m.words) items ≡ true) where
+  versions-counted :
+      (page word : ℕ) → word < m.words
+      → count_by (has_key counted.Versions m.words [] (cell_of m.words page word)) items ≡ flat_writes items page word
+  versions-counted page word w =
+      let alike = count-alike (is_within m.pages m.words) (has_key counted.Versions m.words [] (cell_of m.words page word)) (writes_word page word) each items within in
+      omega (arith, alike, writes-counted page word 0 items)
     where
-      test : (x y : ℕ) → nat_lt x y ≡ true → x < y
-      test x y h = grind (arith, nat_tests)
+      each : (i : Item) → is_within m.pages m.words i ≡ true → has_key counted.Versions m.words [] (cell_of m.words page word) i ≡ writes_word page word i
+      each (item.Access a) h = by (is_write a.kind)
+        where
+          inside : a.word < m.words
+          inside = below a.word m.words (and_parts (nat_lt a.page m.pages) (nat_lt a.word m.words) h).1
 
-  load-key :
-      (page word version : ℕ) → word < m.words → version < 4294967296 → (i : Item) → is_small m i ≡ true
-      → has_key counted.Loads m.words (key_at (cell_of m.words page word) version) i ≡ is_load_at page word version i
-  unfolding has_key
-  load-key page word version w v (item.Access a) small = by (is_write a.kind) (small-parts a small)
+          by :
+              (writes : Bool)
+              → option_map_or (λ k. k == cell_of m.words page word) (if writes then Some (cell_of m.words a.page a.word) else None) false
+              ≡ (writes && a.page == page && a.word == word)
+          by true = same-cell m.words page word a.page a.word w inside
+          by false = refl
+      each (item.Change c) h = refl
+      each (item.Applied x) h = refl
+      each (item.Switch s) h = refl
+
+  changes-counted : (page : ℕ) → count_by (has_key counted.Changes m.words [] page) items ≡ seq_of items page
+  changes-counted page =
+      let alike = count-alike (is_within m.pages m.words) (has_key counted.Changes m.words [] page) (changes_page page) each items within in
+      omega (arith, alike, seq-counted page 0 items)
     where
-      by :
-          (writes : Bool) → SmallParts a
-          → option_map_or (λ k. k == key_at (cell_of m.words page word) version) (if writes then None else Some (key_at (cell_of m.words a.page a.word) a.version)) false
-          ≡ (not writes && (a.page == page && a.word == word) && a.version == version)
-      by true parts = refl
-      by false parts =
-          same-key (cell_of m.words page word) version (cell_of m.words a.page a.word) a.version v parts.2
-          ∙ ap (λ b. b && a.version == version) (same-cell m.words page word a.page a.word w parts.1)
-  load-key page word version w v (item.Change c) small = refl
-  load-key page word version w v (item.Applied x) small = refl
-  load-key page word version w v (item.Switch s) small = refl
+      each : (i : Item) → is_within m.pages m.words i ≡ true → has_key counted.Changes m.words [] page i ≡ changes_page page i
+      each (item.Access a) h = refl
+      each (item.Change c) h = refl
+      each (item.Applied x) h = refl
+      each (item.Switch s) h = refl
 
-  use-key : (page seq : ℕ) → seq < 4294967296 → (i : Item) → is_small m i ≡ true → has_key counted.Uses m.words (key_at page seq) i ≡ is_use_at page seq i
-  unfolding has_key
-  use-key page seq s (item.Access a) small = same-key page seq a.page a.grant s (small-parts a small).3
-  use-key page seq s (item.Change c) small = refl
-  use-key page seq s (item.Applied x) small = refl
-  use-key page seq s (item.Switch y) small = refl
+  -- ---- a table
 
-  write-key : (page seq : ℕ) → seq < 4294967296 → (i : Item) → is_small m i ≡ true → has_key counted.Writes m.words (key_at page seq) i ≡ is_write_at page seq i
-  unfolding has_key
-  write-key page seq s (item.Access a) small = by (is_write a.kind) (small-parts a small)
-    where
-      by :
-          (writes : Bool) → SmallParts a
-          → option_map_or (λ k. k == key_at page seq) (if writes then Some (key_at a.page a.grant) else None) false
-          ≡ (writes && a.page == page && a.grant == seq)
-      by true parts = same-key page seq a.page a.grant s parts.3
-      by false parts = refl
-  write-key page seq s (item.Change c) small = refl
-  write-key page seq s (item.Applied x) small = refl
-  write-key page seq s (item.Switch y) small = refl
+  module _ (journals : Journals) (has : HasJournals items journals) (of_rows of_places : Counted) (n : ℕ) (t : Table) (filled : IsFilled of_rows of_places m.words journals n t) where
+    abbrev start : ℕ → ℕ
+    start row = slice_index t.starts.items row
 
-  -- ---- sorted keys of all journals
+    -- what is counted at a place of a row passes a test; none pass it whose place is past the row
+    found :
+        (row place : ℕ) (test : Item → Bool) → row + 1 < n
+        → (start row + place < start (row + 1) → (i : Item) → is_within m.pages m.words i ≡ true → has_key of_places m.words t.starts.items (start row + place) i ≡ test i)
+        → (1 + count_by (has_key of_rows m.words [] row) items ≤ place → count_by test items ≡ 0)
+        → total_at t row place ≡ count_by test items
+    found row place test l each past = by (cases_Bool (nat_lt (start row + place) (start (row + 1))))
+      where
+        within_rows : row + 1 < length filled.sizes
+        within_rows = omega (arith, l, filled.all)
 
-  module _ (items : List Item) (journals : Journals) (has : HasJournals items journals) (small : list_all (is_small m) items ≡ true) where
-    keys-found :
-        (which : Counted) (keys : List ℕ) → IsPermutation (all_keys which m.words journals) keys → (key : ℕ)
-        → how_many keys key ≡ count_by (has_key which m.words key) items
-    keys-found which keys sorted key =
-        sum_by-IsPermutation (λ k. if k == key then 1 else 0) (all_keys which m.words journals) keys sorted
-        ∙ (all-keys_counted which m.words key journals ∙ journals-counted (has_key which m.words key) items journals has)
+        by :
+            (nat_lt (start row + place) (start (row + 1)) ≡ true) ⊎ (nat_lt (start row + place) (start (row + 1)) ≡ false)
+            → total_at t row place ≡ count_by test items
+        by (inl h) =
+            let inside = below (start row + place) (start (row + 1)) h in
+            let here = starts-within filled.sizes t.starts.items filled.starts (row + 1) within_rows in
+            ap (λ (b : Bool). number_at t.numbers.items (if b then Some (start row + place) else None)) h
+            ∙ (filled.numbers (start row + place) (omega (arith, inside, here, filled.room))
+            ∙ (journals-counted (has_key of_places m.words t.starts.items (start row + place)) items journals has
+            ∙ count-alike (is_within m.pages m.words) (has_key of_places m.words t.starts.items (start row + place)) test (each inside) items within))
+        by (inr h) =
+            let outside = not-below (start row + place) (start (row + 1)) h in
+            let size = filled.each row (omega (arith, l)) in
+            let own = journals-counted (has_key of_rows m.words [] row) items journals has in
+            ap (λ (b : Bool). number_at t.numbers.items (if b then Some (start row + place) else None)) h
+            ∙ sym (past (omega (arith, outside, starts-more filled.sizes t.starts.items filled.starts row within_rows, size, own)))
+
+    key-same :
+        (row place r p : ℕ) → row + 1 < n → r + 1 < n → start row + place < start (row + 1)
+        → option_map_or (λ k. k == start row + place) (key_at t.starts.items r p) false ≡ (r == row && p == place)
+    key-same row place r p l k inside =
+        same-key filled.sizes t.starts.items filled.starts row place r p (omega (arith, l, filled.all)) (omega (arith, k, filled.all)) inside
+
+  -- ---- the tables of a good history
+
+  module _ (answer : Answer) (kept : AllKept m answer [] items) (journals : Journals) (has : HasJournals items journals) where
+    loads-found :
+        (t : Table) → IsFilled counted.Versions counted.Loads m.words journals (m.pages * m.words + 1) t → (page word version : ℕ) → page < m.pages
+        → word < m.words → total_at t (cell_of m.words page word) version ≡ count_by (is_load_at page word version) items
+    loads-found t filled page word version p w =
+        found journals has counted.Versions counted.Loads (m.pages * m.words + 1) t filled (cell_of m.words page word) version (is_load_at page word version)
+        (cell-row page word p w) each past
+      where
+        cell-row : (page word : ℕ) → page < m.pages → word < m.words → cell_of m.words page word + 1 < m.pages * m.words + 1
+        cell-row page word p w = let l = mul-add-lt page m.words word m.pages p w in grind (arith)
+
+        each :
+            slice_index t.starts.items (cell_of m.words page word) + version < slice_index t.starts.items (cell_of m.words page word + 1)
+            → (i : Item) → is_within m.pages m.words i ≡ true
+            → has_key counted.Loads m.words t.starts.items (slice_index t.starts.items (cell_of m.words page word) + version) i ≡ is_load_at page word version i
+        each inside (item.Access a) h = by (is_write a.kind)
+          where
+            both : (nat_lt a.page m.pages ≡ true) × (nat_lt a.word m.words ≡ true)
+            both = and_parts (nat_lt a.page m.pages) (nat_lt a.word m.words) h
+
+            aw : a.word < m.words
+            aw = below a.word m.words both.1
+
+            row : cell_of m.words a.page a.word + 1 < m.pages * m.words + 1
+            row = cell-row a.page a.word (below a.page m.pages both.0) aw
+
+            by :
+                (writes : Bool)
+                → option_map_or (λ k. k == slice_index t.starts.items (cell_of m.words page word) + version) (if writes then None else key_at t.starts.items (cell_of m.words a.page a.word) a.version) false
+                ≡ (not writes && (a.page == page && a.word == word) && a.version == version)
+            by true = refl
+            by false =
+                key-same journals has counted.Versions counted.Loads (m.pages * m.words + 1) t filled (cell_of m.words page word) version (cell_of m.words a.page a.word) a.version (cell-row page word p w) row inside
+                ∙ ap (λ b. b && a.version == version) (same-cell m.words page word a.page a.word w aw)
+        each inside (item.Change c) h = refl
+        each inside (item.Applied x) h = refl
+        each inside (item.Switch s) h = refl
+
+        past : 1 + count_by (has_key counted.Versions m.words [] (cell_of m.words page word)) items ≤ version → count_by (is_load_at page word version) items ≡ 0
+        past h =
+            let e : version - 1 + 1 ≡ version = omega (arith, h) in
+            let before : flat_writes items page word ≤ version - 1 = omega (arith, h, versions-counted page word w) in
+            none-count (is_load_at page word version) items
+            (subst (λ v. list_any (is_load_at page word v) items ≡ false) e (load-past m answer page word (version - 1) [] items tt kept before))
+
+    uses-found :
+        (t : Table) → IsFilled counted.Changes counted.Uses m.words journals (m.pages + 1) t → (page seq : ℕ) → page < m.pages
+        → total_at t page seq ≡ count_by (is_use_at page seq) items
+    uses-found t filled page seq p =
+        found journals has counted.Changes counted.Uses (m.pages + 1) t filled page seq (is_use_at page seq) (omega (arith, p)) each past
+      where
+        each :
+            slice_index t.starts.items page + seq < slice_index t.starts.items (page + 1) → (i : Item) → is_within m.pages m.words i ≡ true
+            → has_key counted.Uses m.words t.starts.items (slice_index t.starts.items page + seq) i ≡ is_use_at page seq i
+        each inside (item.Access a) h =
+            let here = below a.page m.pages (and_parts (nat_lt a.page m.pages) (nat_lt a.word m.words) h).0 in
+            key-same journals has counted.Changes counted.Uses (m.pages + 1) t filled page seq a.page a.grant (omega (arith, p)) (omega (arith, here)) inside
+        each inside (item.Change c) h = refl
+        each inside (item.Applied x) h = refl
+        each inside (item.Switch s) h = refl
+
+        past : 1 + count_by (has_key counted.Changes m.words [] page) items ≤ seq → count_by (is_use_at page seq) items ≡ 0
+        past h =
+            none-count (is_use_at page seq) items
+            (grant-past m answer (λ a. a.page == page) page seq (λ a e. eqb-true a.page page e) [] items tt kept (omega (arith, h, changes-counted page)))
+
+    writes-found :
+        (t : Table) → IsFilled counted.Changes counted.Writes m.words journals (m.pages + 1) t → (page seq : ℕ) → page < m.pages
+        → total_at t page seq ≡ count_by (is_write_at page seq) items
+    writes-found t filled page seq p =
+        found journals has counted.Changes counted.Writes (m.pages + 1) t filled page seq (is_write_at page seq) (omega (arith, p)) each past
+      where
+        each :
+            slice_index t.starts.items page + seq < slice_index t.starts.items (page + 1) → (i : Item) → is_within m.pages m.words i ≡ true
+            → has_key counted.Writes m.words t.starts.items (slice_index t.starts.items page + seq) i ≡ is_write_at page seq i
+        each inside (item.Access a) h = by (is_write a.kind)
+          where
+            here : a.page < m.pages
+            here = below a.page m.pages (and_parts (nat_lt a.page m.pages) (nat_lt a.word m.words) h).0
+
+            by :
+                (writes : Bool)
+                → option_map_or (λ k. k == slice_index t.starts.items page + seq) (if writes then key_at t.starts.items a.page a.grant else None) false
+                ≡ (writes && a.page == page && a.grant == seq)
+            by true = key-same journals has counted.Changes counted.Writes (m.pages + 1) t filled page seq a.page a.grant (omega (arith, p)) (omega (arith, here)) inside
+            by false = refl
+        each inside (item.Change c) h = refl
+        each inside (item.Applied x) h = refl
+        each inside (item.Switch s) h = refl
+
+        past : 1 + count_by (has_key counted.Changes m.words [] page) items ≤ seq → count_by (is_write_at page seq) items ≡ 0
+        past h =
+            none-count (is_write_at page seq) items
+            (grant-past m answer (λ a. is_write a.kind && a.page == page) page seq (λ a e. eqb-true a.page page (and_parts (is_write a.kind) (a.page == page) e).1) [] items tt kept
+            (omega (arith, h, changes-counted page)))
 
     -- the totals are those of the items
-    pub totals-known :
-        (t : Totals) → IsPermutation (all_keys counted.Loads m.words journals) t.loads.items
-        → IsPermutation (all_keys counted.Uses m.words journals) t.uses.items
-        → IsPermutation (all_keys counted.Writes m.words journals) t.writes.items → KnowsTotals m t items
-    totals-known t loads uses writes = record {
-      loads = λ page word version p w v.
-          keys-found counted.Loads t.loads.items loads (key_at (cell_of m.words page word) version)
-          ∙ count-alike (is_small m) (has_key counted.Loads m.words (key_at (cell_of m.words page word) version)) (is_load_at page word version) (load-key page word version w v) items small;
-      uses = λ page seq p s.
-          keys-found counted.Uses t.uses.items uses (key_at page seq)
-          ∙ count-alike (is_small m) (has_key counted.Uses m.words (key_at page seq)) (is_use_at page seq) (use-key page seq s) items small;
-      writes = λ page seq p s.
-          keys-found counted.Writes t.writes.items writes (key_at page seq)
-          ∙ count-alike (is_small m) (has_key counted.Writes m.words (key_at page seq)) (is_write_at page seq) (write-key page seq s) items small;
+    pub totals-known : (before after : Totals) → HaveRows m.pages m.words before → AreFilled m.words journals before after → KnowsTotals m after items
+    totals-known before after rows filled = record {
+      loads = loads-found after.loads (subst (λ n. IsFilled counted.Versions counted.Loads m.words journals n after.loads) rows.of_loads filled.loads);
+      uses = uses-found after.uses (subst (λ n. IsFilled counted.Changes counted.Uses m.words journals n after.uses) rows.of_uses filled.uses);
+      writes = writes-found after.writes (subst (λ n. IsFilled counted.Changes counted.Writes m.words journals n after.writes) rows.of_writes filled.writes);
     }

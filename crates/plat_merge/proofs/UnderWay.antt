@@ -1,5 +1,5 @@
 -- a merge under way: what is placed and what is left of a good history, and what is kept of them
-use Rattle.std.specs.Prelude.{◌≡◌, ◌⊎◌, ℕ, zero, suc, ◌+◌, ◌<◌, ◌≤◌, ◌==◌, nat_lt, ◌&&◌, not, Bool, true, false, List, [], ◌∷◌, ◌++◌, length, drop, count_by, Option, Some, None, slice_index, slice_index_or, slice_set, slice_get}
+use Rattle.std.specs.Prelude.{◌≡◌, ◌⊎◌, ℕ, zero, suc, ◌+◌, ◌<◌, ◌≤◌, ◌==◌, nat_lt, not, Bool, true, false, List, [], ◌∷◌, ◌++◌, length, drop, count_by, Option, Some, None, slice_index, slice_index_or, slice_set, slice_get}
 use Rattle.std.proofs.Common.{refl, ap, sym, ◌∙◌, inl, inr, arith, subst}
 use Rattle.std.specs.List.{list_any, list_all}
 use Rattle.std.specs.Option.{option_map_or}
@@ -24,7 +24,8 @@ use Rattle.plat_merge.specs.declared.totals.Totals.{Totals}
 use Rattle.plat_merge.specs.Standing.{is_load_at, is_use_at, is_write_at, may_stand}
 use Rattle.plat_merge.specs.Counts.{cell_of, is_within, stands_by, ShowsCounts}
 use Rattle.plat_merge.specs.Heads.{left_from, head_passes}
-use Rattle.plat_merge.specs.Placing.{total_at, CanPlace, words_placed, pages_placed}
+use Rattle.plat_merge.specs.Keys.{total_at}
+use Rattle.plat_merge.specs.Placing.{CanPlace, words_placed, pages_placed}
 use Rattle.plat_merge.proofs.StandLemmas.{stands-exactly}
 use Rattle.plat_merge.proofs.StepLemmas.{count-append, count-cons}
 use Rattle.plat_merge.proofs.CountLemmas.{stands-shown, FindsTotals, placed-shown}
@@ -33,20 +34,13 @@ use Rattle.plat_merge.proofs.HeadLemmas.{left-at, left-length, left-next, get-dr
 
 -- ---- what is known of all items
 
--- page, word and numbers of an item are small
-abbrev pub is_small : Machine → Item → Bool
-is_small m (item.Access a) = is_within m.pages m.words (item.Access a) && nat_lt a.version 4294967296 && nat_lt a.grant 4294967296
-is_small m (item.Change c) = is_within m.pages m.words (item.Change c) && nat_lt c.seq 4294967296
-is_small m (item.Applied x) = true
-is_small m (item.Switch s) = true
-
 -- the totals say of these items how many load a version, and how many go by a grant
 pub record KnowsTotals (m : Machine) (t : Totals) (items : List Item) : Type 0 where
   pub loads :
-      (page word version : ℕ) → page < m.pages → word < m.words → version < 4294967296
-      → total_at t.loads.items (cell_of m.words page word) version ≡ count_by (is_load_at page word version) items
-  pub uses : (page seq : ℕ) → page < m.pages → seq < 4294967296 → total_at t.uses.items page seq ≡ count_by (is_use_at page seq) items
-  pub writes : (page seq : ℕ) → page < m.pages → seq < 4294967296 → total_at t.writes.items page seq ≡ count_by (is_write_at page seq) items
+      (page word version : ℕ) → page < m.pages → word < m.words
+      → total_at t.loads (cell_of m.words page word) version ≡ count_by (is_load_at page word version) items
+  pub uses : (page seq : ℕ) → page < m.pages → total_at t.uses page seq ≡ count_by (is_use_at page seq) items
+  pub writes : (page seq : ℕ) → page < m.pages → total_at t.writes page seq ≡ count_by (is_write_at page seq) items
 
 -- ---- the state of a merge
 
@@ -56,7 +50,7 @@ pub record IsUnderWay (m : Machine) (answer : Answer) (t : Totals) (left : Journ
   pub start : AllKept m answer [] placed
   pub kept : AllKept m answer placed items
   pub shows : ShowsCounts m placed items m.words words pages
-  pub small : list_all (is_small m) items ≡ true
+  pub within : list_all (is_within m.pages m.words) items ≡ true
   pub totals : KnowsTotals m t (placed ++ items)
 
 -- ---- lists
@@ -95,22 +89,11 @@ module _ (m : Machine) (answer : Answer) (t : Totals) (journals : Journals) (nex
   pub first : (a : ℕ) (i : Item) → head a ≡ Some i → IsFirst a u.items i (drop 1 (slice_index_or left a []))
   first a i h = first_of a u.items i (drop 1 (slice_index_or left a [])) (sym (u.has a) ∙ left-next_item a i h)
 
-  small-head : (a : ℕ) (i : Item) → head a ≡ Some i → is_small m i ≡ true
-  small-head a i h =
-      let f = first a i h in
-      (all-at (is_small m) f.front f.back i (sym (ap (list_all (is_small m)) f.parts) ∙ u.small)).0
-
   -- each next item is within the machine
   pub within-head : (a : ℕ) (i : Item) → head a ≡ Some i → is_within m.pages m.words i ≡ true
-  within-head a i h = by i (small-head a i h)
-    where
-      by : (i : Item) → is_small m i ≡ true → is_within m.pages m.words i ≡ true
-      by (item.Access x) k =
-          (and_parts (is_within m.pages m.words (item.Access x)) (nat_lt x.version 4294967296)
-          (and_parts (is_within m.pages m.words (item.Access x) && nat_lt x.version 4294967296) (nat_lt x.grant 4294967296) k).0).0
-      by (item.Change c) k = (and_parts (is_within m.pages m.words (item.Change c)) (nat_lt c.seq 4294967296) k).0
-      by (item.Applied x) k = refl
-      by (item.Switch s) k = refl
+  within-head a i h =
+      let f = first a i h in
+      (all-at (is_within m.pages m.words) f.front f.back i (sym (ap (list_all (is_within m.pages m.words)) f.parts) ∙ u.within)).0
 
   alone : (a : ℕ) (i : Item) (h : head a ≡ Some i) → list_any (λ j. actor_of j == actor_of i) (first a i h).front ≡ false
   alone a i h = let f = first a i h in ap (λ b. list_any (λ j. actor_of j == b) f.front) f.by_actor ∙ f.alone
@@ -200,23 +183,17 @@ module _ (m : Machine) (answer : Answer) (t : Totals) (journals : Journals) (nex
 
     -- what the totals say of the item
     pub finds-totals : FindsTotals m.words t (placed ++ (f.front ++ i ∷ f.back)) i
-    finds-totals = by i (small-head a i h) whole-totals
+    finds-totals = by i (within-head a i h) whole-totals
       where
-        by : (i : Item) → is_small m i ≡ true → {items : List Item} → KnowsTotals m t items → FindsTotals m.words t items i
+        by : (i : Item) → is_within m.pages m.words i ≡ true → {items : List Item} → KnowsTotals m t items → FindsTotals m.words t items i
         by (item.Access x) k knows =
-            let parts =
-            and_parts (is_within m.pages m.words (item.Access x)) (nat_lt x.version 4294967296)
-            (and_parts (is_within m.pages m.words (item.Access x) && nat_lt x.version 4294967296) (nat_lt x.grant 4294967296) k).0 in
-            let both = and_parts (nat_lt x.page m.pages) (nat_lt x.word m.words) parts.0 in
+            let both = and_parts (nat_lt x.page m.pages) (nat_lt x.word m.words) k in
             let p : x.page < m.pages = let e = both.0 in grind (arith, nat_tests) in
             let w : x.word < m.words = let e = both.1 in grind (arith, nat_tests) in
-            let v : x.version < 4294967296 = let e = parts.1 in grind (arith, nat_tests) in
-            λ writes. knows.loads x.page x.word x.version p w v
+            λ writes. knows.loads x.page x.word x.version p w
         by (item.Change c) k knows =
-            let parts = and_parts (is_within m.pages m.words (item.Change c)) (nat_lt c.seq 4294967296) k in
-            let p : c.page < m.pages = let e = parts.0 in grind (arith, nat_tests) in
-            let s : c.seq < 4294967296 = let e = parts.1 in grind (arith, nat_tests) in
-            (knows.uses c.page c.seq p s, knows.writes c.page c.seq p s)
+            let p : c.page < m.pages = grind (arith, nat_tests) in
+            (knows.uses c.page c.seq p, knows.writes c.page c.seq p)
         by (item.Applied x) k knows = tt
         by (item.Switch s) k knows = tt
 
@@ -237,12 +214,12 @@ module _ (m : Machine) (answer : Answer) (t : Totals) (journals : Journals) (nex
       start = kept-append m answer [] placed (i ∷ []) u.start (moved.0, tt);
       kept = moved.1;
       shows = next-shown;
-      small = (all-at (is_small m) f.front f.back i (sym (ap (list_all (is_small m)) f.parts) ∙ u.small)).1;
+      within = (all-at (is_within m.pages m.words) f.front f.back i (sym (ap (list_all (is_within m.pages m.words)) f.parts) ∙ u.within)).1;
       totals = record {
-        loads = λ page word version p w v.
-            whole-totals.loads page word version p w v ∙ count-moved (is_load_at page word version) placed f.front f.back i;
-        uses = λ page seq p s. whole-totals.uses page seq p s ∙ count-moved (is_use_at page seq) placed f.front f.back i;
-        writes = λ page seq p s. whole-totals.writes page seq p s ∙ count-moved (is_write_at page seq) placed f.front f.back i;
+        loads = λ page word version p w.
+            whole-totals.loads page word version p w ∙ count-moved (is_load_at page word version) placed f.front f.back i;
+        uses = λ page seq p. whole-totals.uses page seq p ∙ count-moved (is_use_at page seq) placed f.front f.back i;
+        writes = λ page seq p. whole-totals.writes page seq p ∙ count-moved (is_write_at page seq) placed f.front f.back i;
       };
     }
 

@@ -11,15 +11,11 @@ use Rattle.plat_merge.specs.declared.counts.PageCount.{PageCount}
 use Rattle.plat_merge.specs.declared.counts.Counts.{Counts}
 use Rattle.plat_merge.specs.declared.totals.Totals.{Totals}
 use Rattle.plat_merge.specs.Counts.{cell_of, word_at, page_at, words_after, pages_after, pages_changed}
-use Rattle.plat_merge.specs.Keys.{key_at, how_many}
-
--- how many there are in all
-abbrev pub total_at : List ℕ → (row place : ℕ) → ℕ
-total_at keys row place = how_many keys (key_at row place)
+use Rattle.plat_merge.specs.Keys.{total_at}
 
 -- the loads that find what an access wrote
 abbrev pub loads_found : (page_words : ℕ) → Totals → Access → ℕ
-loads_found page_words t a = if is_write a.kind then total_at t.loads.items (cell_of page_words a.page a.word) a.version else 0
+loads_found page_words t a = if is_write a.kind then total_at t.loads (cell_of page_words a.page a.word) a.version else 0
 
 -- ---- before
 
@@ -32,8 +28,8 @@ pub record CanAccess (c : Counts) (t : Totals) (a : Access) : Type 0 where
 pub record CanChange (c : Counts) (t : Totals) (d : Change) : Type 0 where
   pub page : d.page < length c.pages.items
   pub few : (page_at c.pages.items d.page).changes < MOST_ITEMS
-  pub all_uses : (page_at c.pages.items d.page).uses + total_at t.uses.items d.page d.seq ≤ MOST_ITEMS
-  pub all_writes : (page_at c.pages.items d.page).writes + total_at t.writes.items d.page d.seq ≤ MOST_ITEMS
+  pub all_uses : (page_at c.pages.items d.page).uses + total_at t.uses d.page d.seq ≤ MOST_ITEMS
+  pub all_writes : (page_at c.pages.items d.page).writes + total_at t.writes d.page d.seq ≤ MOST_ITEMS
 
 abbrev pub CanPlace : Counts → Totals → Item → Type 0
 CanPlace c t (item.Access a) = CanAccess c t a
@@ -53,7 +49,7 @@ words_placed page_words t words (item.Switch s) = words
 abbrev pub pages_placed : Totals → List PageCount → Item → List PageCount
 pages_placed t pages (item.Access a) = pages_after a pages
 pages_placed t pages (item.Change d) =
-    pages_changed d (total_at t.uses.items d.page d.seq) (total_at t.writes.items d.page d.seq) pages
+    pages_changed d (total_at t.uses d.page d.seq) (total_at t.writes d.page d.seq) pages
 pages_placed t pages (item.Applied x) = pages
 pages_placed t pages (item.Switch s) = pages
 

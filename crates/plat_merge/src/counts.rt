@@ -3,11 +3,10 @@
 ghost use Rattle.std.specs.Prelude.{ℕ, replicate, ◌≡◌, ◌+◌, ◌*◌, ◌<◌, ◌≤◌, length, IsTrue, IfOk};
 ghost use Rattle.plat_base.specs.declared.limits.TheConstants.{MOST_ITEMS};
 ghost use Rattle.plat_merge.specs.Standing.{may_access as may_access_by, may_remove as may_remove_by};
-ghost use Rattle.std.specs.List.Sorted.{IsNonDecreasingBy};
 ghost use Rattle.plat_merge.specs.Keys.{AreFirst};
 ghost use Rattle.plat_merge.specs.Counts.{cell_of, page_at, FitCounts, is_within, stands_by, word_of, loads_of, Noted, pages_after, pages_changed, no_page};
 
-use crate::totals::how_many;
+use crate::totals::Table;
 use plat_base::{Access, Change, Item, OutOfMemory, Removed};
 use std::alloc::Global;
 
@@ -71,9 +70,7 @@ impl Counts {
 
     /// Notes of each word how many loads find it as it is before all writes.
     #[tactic(auto, using(crate::proofs::KeyLemmas::few_cells))]
-    pub fn begin(&mut self, loads: &[u64])
-        requires sorted { IsNonDecreasingBy (λ n. n) loads.now }
-        requires few { length loads.now ≤ MOST_ITEMS }
+    pub fn begin(&mut self, loads: &Table)
         ensures words { AreFirst loads.now (length self.old.words.items) self.new.words.items }
         ensures size { length self.new.words.items ≡ length self.old.words.items }
         ensures pages { self.new.pages.items ≡ self.old.pages.items }
@@ -82,7 +79,7 @@ impl Counts {
         for cell in 0..self.words.len() {
             self.words[cell] = WordCount {
                 writes: 0,
-                loads: how_many(loads, cell, 0),
+                loads: loads.how_many(cell, 0),
             };
         }
     }

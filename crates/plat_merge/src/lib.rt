@@ -7,6 +7,7 @@ mod keys;
 mod merging;
 mod placing;
 mod rooms;
+mod tallies;
 mod totals;
 
 pub use merging::merge;

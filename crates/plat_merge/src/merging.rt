@@ -6,7 +6,6 @@ ghost use Rattle.plat_events.specs.Merges.{merged};
 ghost use Rattle.plat_merge.specs.RoomSeen.{IsRoomFor, HaveGoodHistory};
 
 use crate::heads::ready_actor;
-use crate::keys::gather;
 use crate::placing::place;
 use crate::rooms::Room;
 use plat_base::{Config, Item, Journals, List, PolicyKind};
@@ -24,8 +23,7 @@ fn actors(cfg: &Config) -> u32
 /// The journals of a run as one history: each time the lowest actor whose next item is ready gives it. It places all
 /// items, takes no memory, and never fails.
 ///
-/// An item costs as much as there are actors; a write and a change cost as much more as the number of items has binary
-/// digits.
+/// It counts the items, and then places them. An item costs as much as there are actors, however long the journals are.
 pub fn merge(cfg: &Config, journals: &Journals, room: Room) -> List<Item>
     requires made { journals.now.rooms ≡ journal_rooms (machine cfg.now) }
     requires room { IsRoomFor (machine cfg.now) room }
@@ -39,11 +37,9 @@ pub fn merge(cfg: &Config, journals: &Journals, room: Room) -> List<Item>
         most,
         mut placed,
         mut counts,
-        loads,
-        uses,
-        writes,
+        mut totals,
     } = room;
-    let totals = gather(cfg.words, journals, actors, loads, uses, writes);
+    totals.gather(cfg.words, journals, actors);
     let mut next = [0; 9];
     counts.begin(&totals.loads);
     for _ in 0..most {

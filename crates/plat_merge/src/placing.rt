@@ -3,7 +3,7 @@ ghost use Rattle.std.specs.Prelude.{◌≡◌, ◌<◌, length};
 ghost use Rattle.plat_merge.specs.Placing.{loads_found as loads_found_of, CanPlace, words_then, pages_placed};
 
 use crate::counts::Counts;
-use crate::totals::{Totals, how_many};
+use crate::totals::Totals;
 use plat_base::{Access, Item};
 
 /// How many loads find what an access wrote.
@@ -13,7 +13,7 @@ fn loads_found(counts: &Counts, totals: &Totals, access: &Access) -> u32
     ensures { result ≡ loads_found_of counts.now.page_words totals.now access.now }
 {
     if access.kind.is_write() {
-        how_many(&totals.loads, counts.cell(access), access.version)
+        totals.loads.how_many(counts.cell(access), access.version)
     } else {
         0
     }
@@ -33,8 +33,8 @@ pub fn place(counts: &mut Counts, totals: &Totals, item: &Item)
         }
         Item::Change(change) => {
             let page = change.page as usize;
-            let uses = how_many(&totals.uses, page, change.seq);
-            let writes = how_many(&totals.writes, page, change.seq);
+            let uses = totals.uses.how_many(page, change.seq);
+            let writes = totals.writes.how_many(page, change.seq);
             counts.place_change(change, uses, writes);
         }
         Item::Applied(_) | Item::Switch(_) => {}

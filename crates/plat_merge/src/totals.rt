@@ -1,56 +1,76 @@
 //! How many items there are in all of those that wait for one item.
-ghost use Rattle.std.specs.Prelude.{◌≡◌, ◌<◌, ◌≤◌, nat_lt, nat_le, length, count_by};
-ghost use Rattle.std.specs.List.Sorted.{IsNonDecreasingBy};
+ghost use Rattle.std.specs.Prelude.{◌≡◌, ◌+◌, ◌*◌, ◌<◌, ◌≤◌, length, replicate, IfOk};
 ghost use Rattle.plat_base.specs.declared.limits.TheConstants.{MOST_ITEMS};
-ghost use Rattle.plat_merge.specs.Keys.{key_at as key_of, how_many as count_of};
+ghost use Rattle.plat_merge.specs.Keys.{total_at, IsBlank, AreBlank, HaveRows};
 
-/// A key for each load, by its word and version; and for each access, and for each write, by its page and grant. Each
-/// list is sorted.
+use crate::keys::key_at;
+use plat_base::OutOfMemory;
+use std::alloc::Global;
+
+/// A row of numbers for each word, or for each page. The rows stand one after another; `starts` is where each one starts.
+#[derive(Debug, Drop)]
+pub struct Table {
+    pub starts: Vec<u32>,
+    pub numbers: Vec<u32>,
+}
+
+/// How many loads find each version of each word; and how many accesses go by each grant of each page, and how many of
+/// those write.
 #[derive(Debug, Drop)]
 pub struct Totals {
-    pub loads: Vec<u64>,
-    pub uses: Vec<u64>,
-    pub writes: Vec<u64>,
-    pub ghost loads_sorted: { IsNonDecreasingBy (λ n. n) loads.items },
-    pub ghost uses_sorted: { IsNonDecreasingBy (λ n. n) uses.items },
-    pub ghost writes_sorted: { IsNonDecreasingBy (λ n. n) writes.items },
-    pub ghost few_loads: { length loads.items ≤ MOST_ITEMS },
-    pub ghost few_uses: { length uses.items ≤ MOST_ITEMS },
-    pub ghost few_writes: { length writes.items ≤ MOST_ITEMS },
+    pub loads: Table,
+    pub uses: Table,
+    pub writes: Table,
 }
 
-/// The key of a place of a row.
-pub fn key_at(row: usize, place: u32) -> u64
-    requires { row < 4096 }
-    ensures { result ≡ key_of row place }
+fn room_for_numbers(alloc: Global, n: usize, number: u32) -> Result<Vec<u32>, OutOfMemory>
+    ensures { IfOk result (λ it. it.items ≡ replicate n number) }
 {
-    row as u64 * 4_294_967_296 + u64::from(place)
+    match vec![in alloc; number; n] {
+        Ok(numbers) => Ok(numbers),
+        Err(_) => Err(OutOfMemory),
+    }
 }
 
-/// How many of these sorted keys are below this one.
-fn count_below(keys: &[u64], key: u64) -> usize
-    requires { IsNonDecreasingBy (λ n. n) keys.now }
-    ensures { result ≡ count_by (λ k. nat_lt k key) keys.now }
-{
-    keys.partition_point(|k| *k < key)
+impl Table {
+    /// A table of which nothing is counted, with room for so many rows and items.
+    fn new(alloc: Global, rows: u32, most: u32) -> Result<Table, OutOfMemory>
+        requires rows { rows ≤ 4096 }
+        requires most { most ≤ MOST_ITEMS }
+        ensures blank { IfOk result (IsBlank most) }
+        ensures rows { IfOk result (λ it. length it.starts.items ≡ rows + 1) }
+    {
+        Ok(Table {
+            starts: room_for_numbers(alloc, rows as usize + 1, 1)?,
+            numbers: room_for_numbers(alloc, (rows + 1 + most) as usize, 0)?,
+        })
+    }
+
+    /// How many are counted at a place of a row.
+    pub fn how_many(&self, row: usize, place: u32) -> u32
+        requires { row < 4096 }
+        ensures { result ≡ total_at self.now row place }
+    {
+        match key_at(&self.starts, row, place) {
+            Some(key) if key < self.numbers.len() => self.numbers[key],
+            Some(_) | None => 0,
+        }
+    }
 }
 
-/// How many of these sorted keys are at most this one.
-fn count_up_to(keys: &[u64], key: u64) -> usize
-    requires { IsNonDecreasingBy (λ n. n) keys.now }
-    ensures { result ≡ count_by (λ k. nat_le k key) keys.now }
-{
-    keys.partition_point(|k| *k <= key)
-}
-
-/// How many of these sorted keys are that of a place of a row. It costs as much as the number of keys has binary digits.
-#[tactic(auto, using(crate::proofs::KeyLemmas::how_many_split, crate::proofs::KeyLemmas::count_short))]
-pub fn how_many(keys: &[u64], row: usize, place: u32) -> u32
-    requires sorted { IsNonDecreasingBy (λ n. n) keys.now }
-    requires few { length keys.now ≤ MOST_ITEMS }
-    requires row { row < 4096 }
-    ensures { result ≡ count_of keys.now (key_of row place) }
-{
-    let key = key_at(row, place);
-    (count_up_to(keys, key) - count_below(keys, key)) as u32
+impl Totals {
+    /// Tables of which nothing is counted, with room for so many pages, words of each and items.
+    pub fn new(alloc: Global, pages: u32, page_words: u32, most: u32) -> Result<Totals, OutOfMemory>
+        requires pages { pages ≤ 64 }
+        requires words { page_words ≤ 64 }
+        requires most { most ≤ MOST_ITEMS }
+        ensures blank { IfOk result (AreBlank most) }
+        ensures rows { IfOk result (HaveRows pages page_words) }
+    {
+        Ok(Totals {
+            loads: Table::new(alloc, pages * page_words, most)?,
+            uses: Table::new(alloc, pages, most)?,
+            writes: Table::new(alloc, pages, most)?,
+        })
+    }
 }

@@ -1,5 +1,10 @@
 pub mod Places
 pub mod ProcSeen
-pub mod Within
+pub mod Onwards
+pub mod Reached
+pub mod Owned
+pub mod Fits
 pub mod Followed
+pub mod Cached
+pub mod Granted
 pub mod Tried

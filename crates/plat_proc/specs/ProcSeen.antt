@@ -1,15 +1,19 @@
 -- a processor as its contracts see it
-use Rattle.std.specs.Prelude.{ℕ}
+use Rattle.std.specs.Prelude.{ℕ, Bool, true, false, List, Option}
 use Rattle.plat_events.specs.Privates.{Onward, NewTurn, TurnOver, Relock, Rewait, Place, Polling, Looking, Applying, Ticking, Switching, Loading, Expecting, Exchanging, Locking, InSession, Leaving, Lessening, Gone, LiveLooking, TimeLooking, Over, Private}
-use Rattle.std.specs.Prelude.{Bool, true, false}
+use Rattle.plat_handler.specs.HandlerSeen.{HandlerSeen}
+use Rattle.plat_pmap.specs.declared.atcs.Slot.{Slot}
 use Rattle.plat_proc.specs.declared.procs.Stepped.{Stepped}
 use Rattle.plat_proc.specs.declared.procs.Stepped.TheVariants.{More, Ended}
 
--- its number, its private state, and how many items its journal may have
+-- its number, its private state, how many items its journal may have, what its cache of translations keeps, and the handler
+-- of the fault under way
 pub record ProcSeen : Type 0 where
   pub actor : ℕ
   pub state : Private
   pub room : ℕ
+  pub slots : List (Option Slot)
+  pub handler : Option HandlerSeen
 
 -- how an operation left it
 abbrev pub stepped_to : Place → Stepped

@@ -1,15 +1,20 @@
--- the machine of this crate's tests: one node, whose guest switches to the space that it is active in, prints and halts
-use Rattle.std.specs.Prelude.{List, [], ◌∷◌}
+-- the machines of this crate's tests: one node and one page, and a guest that runs code in space 0
+use Rattle.std.specs.Prelude.{List, [], ◌∷◌, None}
 use Rattle.plat_base.specs.Machine.{Machine, robin}
 use Rattle.plat_base.specs.declared.policies.PolicyKind.TheVariants as policy
 use Rattle.plat_base.specs.declared.guests.Instr.{Instr}
 use Rattle.plat_base.specs.declared.guests.Instr.TheVariants as instr
 
+-- it switches to the space that it is active in, prints and halts
 abbrev pub switching_code : List Instr
 switching_code = instr.Switch 0 ∷ instr.Print 0 ∷ instr.Halt ∷ []
 
-abbrev pub switching : Machine
-switching = record {
+-- it stores, loads what it stored, and prints it
+abbrev pub storing_code : List Instr
+storing_code = instr.Set 1 5 ∷ instr.Store 1 0 None ∷ instr.Load 2 0 None ∷ instr.Print 2 ∷ instr.Halt ∷ []
+
+abbrev pub tried : List Instr → Machine
+tried code = record {
   nodes = 1;
   frames = 1;
   words = 4;
@@ -20,5 +25,5 @@ switching = record {
   distances = [];
   entries = record { space = 0; vpage = 0; page = 0 } ∷ [];
   inits = [];
-  guests = record { space = 0; code = switching_code; labels = [] } ∷ [];
+  guests = record { space = 0; code = code; labels = [] } ∷ [];
 }

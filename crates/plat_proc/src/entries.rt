@@ -7,7 +7,7 @@ use plat_base::Config;
 
 /// The number of entries of the address maps.
 #[tactic(auto, using(plat_words::proofs::Entries::entries_most_of))]
-fn entry_count(cfg: &Config) -> u32
+pub fn entry_count(cfg: &Config) -> u32
     ensures count { result ≡ length cfg.now.entries.items }
     ensures most { result ≤ 512 }
 {

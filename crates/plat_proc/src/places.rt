@@ -7,6 +7,8 @@ pub enum Onward {
     NewTurn,
     /// The end of the turn.
     TurnOver,
+    /// The fault under way: its lock again, or its session.
+    Fault,
 }
 
 /// The operation that a processor makes next. `i` counts the entries of the active space that a scan has passed.
@@ -29,6 +31,14 @@ pub enum Place {
     Ticking,
     /// The swap of the active space.
     Switching(u32),
+    /// The load of a data word.
+    Loading,
+    /// The load before a write.
+    Expecting,
+    /// The write, where the word is as seen.
+    Exchanging(u64),
+    /// What the fault's handler asks for.
+    Faulting,
     /// The swap of the active space to none.
     Leaving(End),
     /// One processor less is live.

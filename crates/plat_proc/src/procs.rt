@@ -1,32 +1,19 @@
 //! Processors.
 ghost use Rattle.std.specs.Prelude.{◌≡◌, ℕ, ◌+◌, ◌*◌, ◌<◌, ◌≤◌, false, true, IsTrue, IfOk, Some, length};
-ghost use Rattle.plat_base.specs.Pages.{entries_of_space};
-ghost use Rattle.plat_base.specs.Rules.{may_apply};
 ghost use Rattle.plat_base.specs.Seen.{machine};
-ghost use Rattle.plat_events.specs.Events.{apply_message, is_followed};
-ghost use Rattle.plat_events.specs.Places.{is_name};
-ghost use Rattle.plat_events.specs.Privates as events;
 ghost use Rattle.plat_events.specs.Privates.{first_private, is_over, period};
 ghost use Rattle.plat_events.specs.Runs.{ended_by};
-ghost use Rattle.plat_events.specs.Scans.{entry_scanned};
 ghost use Rattle.plat_ports.specs.Ports.{AreWords, IsServed};
-ghost use Rattle.plat_proc.specs.Followed.{HasRoomFor, HasStepped, followed_next, is_told, next_named, noted, told_to};
-ghost use Rattle.plat_proc.specs.Places.{onward_seen};
+ghost use Rattle.plat_proc.specs.Fits.{EndsBy, Fits};
+ghost use Rattle.plat_proc.specs.Followed.{HasStepped};
 ghost use Rattle.plat_proc.specs.ProcSeen.{is_at_turn, stepped_to};
-ghost use Rattle.plat_proc.specs.Within.{EndsBy, Fits, is_bare};
 
-use crate::entries::entry_of_space;
-use crate::messages::{bits_kept, may_apply};
 use crate::places::{Onward, Place};
-use crate::scans::{looked, polled, scan_from, turn_over};
-use plat_base::{
-    Applied, Config, End, Ended, Item, List, Message, Moment, Op, OutOfMemory, PolicyKind, Switch,
-    Want, WordName,
-};
+use plat_base::{Config, End, Ended, Item, List, OutOfMemory, PolicyKind};
 use plat_guest::Guest;
+use plat_handler::Handler;
 use plat_pmap::{Atc, Pmap};
 use plat_ports::WordPort;
-use plat_words::{is_word, place};
 use std::alloc::Global;
 use std::marker::Model;
 
@@ -37,27 +24,28 @@ pub enum Stepped {
     Ended(End),
 }
 
-/// A processor between two operations. Contracts see its number, its private state, and how many items its journal may
-/// have.
+/// A processor between two operations. Contracts see its number, its private state, how many items its journal may have, what
+/// its cache of translations keeps, and the handler of the fault under way.
 #[derive(Debug, Drop)]
 pub struct Proc {
-    q: u32,
-    guest: Guest,
-    turns: u32,
+    pub(crate) q: u32,
+    pub(crate) guest: Guest,
+    pub(crate) turns: u32,
     /// That of the turn.
-    tick: u32,
+    pub(crate) tick: u32,
     /// When the daemon's next pass is due: each private state has it, and a processor does not look at it.
     due: u32,
-    pmap: Pmap,
-    atc: Atc,
-    place: Place,
-    journal: List<Item>,
+    pub(crate) pmap: Pmap,
+    pub(crate) atc: Atc,
+    pub(crate) place: Place,
+    pub(crate) handler: Option<Handler>,
+    pub(crate) journal: List<Item>,
 }
 
 impl Model for Proc {
     ghost use Rattle.std.specs.Prelude.{◌≡◌, ◌+◌, length};
     ghost use Rattle.plat_pmap.specs.Slots.{places};
-    ghost use Rattle.plat_proc.specs.Places.{place_seen};
+    ghost use Rattle.plat_proc.specs.Places.{place_seen, HandlesWell};
     ghost use Rattle.plat_proc.specs.ProcSeen.{ProcSeen};
 
     ghost Value = { ProcSeen };
@@ -71,13 +59,15 @@ impl Model for Proc {
         pmap = it.pmap;
         atc = places it.atc;
         due = it.due;
-        place = place_seen it.place;
+        place = place_seen it.handler it.place;
         journal = it.journal.items;
       };
       room = length it.journal.items + it.journal.spare;
+      slots = it.atc;
+      handler = it.handler;
     } };
 
-    ghost invariant = { λ it. it.guest.node ≡ it.q };
+    ghost invariant = { λ it. (it.guest.node ≡ it.q) × HandlesWell it.handler it.place };
 }
 
 /// The daemon's period; 0 where there is no daemon.
@@ -90,21 +80,10 @@ fn period(policy: PolicyKind) -> u32
     }
 }
 
-/// Whether an operation found what the machine may have. A store finds nothing, and is always followed.
-fn is_followed(cfg: &Config, name: WordName, op: Op, found: u64) -> bool
-    ensures { result ≡ is_followed (machine cfg.now) (Some (name, op)) found }
-{
-    match op {
-        Op::Store(_) => true,
-        _ => is_word(cfg, name, found),
-    }
-}
-
 impl Proc {
     /// Processor `q` before its first turn. It takes all memory that the processor ever uses.
     pub fn new(alloc: Global, cfg: &Config, q: u32) -> Result<Proc, OutOfMemory>
         requires processor { q < cfg.now.nodes }
-        requires bare { IsTrue (is_bare (machine cfg.now)) }
         ensures actor { IfOk result (λ it. it.actor ≡ q) }
         ensures start { IfOk result (λ it. it.state ≡ first_private (machine cfg.now) q) }
         ensures fits { IfOk result (Fits (machine cfg.now)) }
@@ -118,6 +97,7 @@ impl Proc {
             pmap: Pmap::new(alloc, cfg)?,
             atc: Atc::new(),
             place: Place::Polling(Onward::NewTurn),
+            handler: None,
             journal: List::with_room(alloc, 4 * cfg.budget as usize)?,
         })
     }
@@ -139,9 +119,10 @@ impl Proc {
         ensures why { EndsBy (machine cfg.now) self.new result }
         ensures live { result ≡ Stepped.More → is_over self.new.state.place ≡ false }
     {
-        let (name, op) = self.next(cfg);
-        let found = port.apply(place(cfg, name), op);
-        self.after(cfg, name, op, found);
+        match self.place {
+            Place::Faulting => self.handle(cfg, port),
+            _ => self.act(cfg, port),
+        }
         self.stepped()
     }
 
@@ -201,186 +182,5 @@ impl Proc {
             Place::Gone(end) => Stepped::Ended(end),
             _ => Stepped::More,
         }
-    }
-
-    /// The word of the next operation, and the operation.
-    fn next(&self, cfg: &Config) -> (WordName, Op)
-        requires live { is_over self.now.state.place ≡ false }
-        requires fits { Fits (machine cfg.now) self.now }
-        ensures next { next_named (machine cfg.now) self.now ≡ Some result }
-        ensures named { IsTrue (is_name (machine cfg.now) result.0) }
-    {
-        let q = self.q;
-        match self.place {
-            Place::Polling(_) => (WordName::Intr(q), Op::Swap(0)),
-            Place::Looking { i, .. } => (WordName::Cmap(self.scanned(cfg, i)), Op::Load),
-            Place::Applying { i, message, .. } => (
-                WordName::Cmap(self.scanned(cfg, i)),
-                Op::And(bits_kept(message, q)),
-            ),
-            Place::Ticking => (WordName::Time, Op::Add(1)),
-            Place::Switching(space) => (WordName::Act(q), Op::Swap(u64::from(space) + 1)),
-            Place::Leaving(_) => (WordName::Act(q), Op::Swap(0)),
-            Place::Lessening(_) => (WordName::Live, Op::Sub(1)),
-            Place::Gone(_) => unreachable!(),
-        }
-    }
-
-    /// The entry of the active space that a scan looks at.
-    fn scanned(&self, cfg: &Config, i: u32) -> u32
-        requires { i < length (entries_of_space (machine cfg.now) self.now.state.guest.space) }
-        ensures entry { result ≡ entry_scanned (machine cfg.now) self.now.state i }
-        ensures within { result < length cfg.now.entries.items }
-    {
-        entry_of_space(cfg, self.guest.space(), i)
-    }
-
-    /// Takes in what its operation `op` on the word `name` found, where the machine may have it.
-    fn after(&mut self, cfg: &Config, name: WordName, op: Op, found: u64)
-        requires fits { Fits (machine cfg.now) self.old }
-        requires its_own { next_named (machine cfg.now) self.old ≡ Some (name, op) }
-        ensures state { self.new.state ≡ told_to (machine cfg.now) self.old found }
-        ensures actor { self.new.actor ≡ self.old.actor }
-        ensures room { self.new.room ≡ self.old.room }
-    {
-        if is_followed(cfg, name, op, found) {
-            self.follow(cfg, found);
-        }
-    }
-
-    /// Takes in what its operation found.
-    fn follow(&mut self, cfg: &Config, found: u64)
-        requires fits { Fits (machine cfg.now) self.old }
-        requires followed { is_told (machine cfg.now) self.old found ≡ true }
-        ensures state { self.new.state ≡ followed_next (machine cfg.now) self.old found }
-        ensures actor { self.new.actor ≡ self.old.actor }
-        ensures room { self.new.room ≡ self.old.room }
-    {
-        match self.place {
-            Place::Polling(onward) => self.poll(cfg, onward, found),
-            Place::Looking { i, moment, onward } => self.look(cfg, i, moment, onward, found),
-            Place::Applying {
-                i,
-                message,
-                moment,
-                onward,
-            } => self.apply(cfg, i, message, moment, onward),
-            Place::Ticking => self.tick(cfg, found),
-            Place::Switching(space) => self.switch(cfg, space),
-            Place::Leaving(end) => self.place = Place::Lessening(end),
-            Place::Lessening(end) => self.place = Place::Gone(end),
-            Place::Gone(_) => {}
-        }
-    }
-
-    /// After a poll.
-    fn poll(&mut self, cfg: &Config, onward: Onward, found: u64)
-        requires at { self.old.state.place ≡ events.Polling (onward_seen onward) }
-        requires fits { Fits (machine cfg.now) self.old }
-        ensures state { self.new.state ≡ followed_next (machine cfg.now) self.old found }
-        ensures actor { self.new.actor ≡ self.old.actor }
-        ensures room { self.new.room ≡ self.old.room }
-    {
-        self.place = polled(cfg, self.turns, self.guest.space(), onward, found);
-    }
-
-    /// After a look at a mask.
-    fn look(&mut self, cfg: &Config, i: u32, moment: Moment, onward: Onward, found: u64)
-        requires at { self.old.state.place ≡ events.Looking i moment (onward_seen onward) }
-        requires fits { Fits (machine cfg.now) self.old }
-        ensures state { self.new.state ≡ followed_next (machine cfg.now) self.old found }
-        ensures actor { self.new.actor ≡ self.old.actor }
-        ensures room { self.new.room ≡ self.old.room }
-    {
-        let space = self.guest.space();
-        self.place = looked(cfg, self.q, self.turns, space, i, moment, onward, found);
-    }
-
-    /// Applies a message to the translation of the entry that the scan looks at.
-    fn apply(&mut self, cfg: &Config, i: u32, message: Message, moment: Moment, onward: Onward)
-        requires at { self.old.state.place ≡ events.Applying i message moment (onward_seen onward) }
-        requires fits { Fits (machine cfg.now) self.old }
-        ensures state { (n : ℕ) → self.new.state ≡ followed_next (machine cfg.now) self.old n }
-        ensures actor { self.new.actor ≡ self.old.actor }
-        ensures room { self.new.room ≡ self.old.room }
-    {
-        let entry = self.scanned(cfg, i);
-        self.note(entry, message, moment);
-        self.receive(entry, message);
-        let space = self.guest.space();
-        self.place = scan_from(cfg, self.turns, space, i + 1, moment, onward);
-    }
-
-    /// Notes a message, where it finds a translation that it can be applied to.
-    fn note(&mut self, entry: u32, message: Message, moment: Moment)
-        requires entry { entry < length self.old.state.pmap }
-        requires room { HasRoomFor self.old entry message }
-        ensures state { self.new.state ≡ noted self.old.actor self.old.state entry message moment }
-        ensures actor { self.new.actor ≡ self.old.actor }
-        ensures room { self.new.room ≡ self.old.room }
-    {
-        if may_apply(message, self.pmap.find(entry)) {
-            self.journal.push(Item::Applied(Applied {
-                actor: self.q,
-                entry,
-                message,
-                moment,
-            }));
-        }
-    }
-
-    /// Drops or lowers the translation of an entry, as a message says.
-    fn receive(&mut self, entry: u32, message: Message)
-        requires { entry < length self.old.state.pmap }
-        ensures state { self.new.state ≡ apply_message self.old.state entry message }
-        ensures actor { self.new.actor ≡ self.old.actor }
-        ensures room { self.new.room ≡ self.old.room }
-    {
-        match message {
-            Message::Invalidate => self.pmap.drop_entry(entry),
-            Message::Restrict => self.pmap.restrict(entry),
-        }
-        self.atc.forget(entry);
-    }
-
-    /// After the tick of a turn: a local or print instruction is done.
-    fn tick(&mut self, cfg: &Config, found: u64)
-        requires at { self.old.state.place ≡ events.Ticking }
-        requires fits { Fits (machine cfg.now) self.old }
-        requires found { found ≤ cfg.now.nodes * cfg.now.budget }
-        ensures state { self.new.state ≡ followed_next (machine cfg.now) self.old found }
-        ensures actor { self.new.actor ≡ self.old.actor }
-        ensures room { self.new.room ≡ self.old.room }
-    {
-        self.turns += 1;
-        self.tick = found as u32 + 1;
-        match self.guest.next(cfg) {
-            Want::Local | Want::Print(_) => {
-                self.guest.after(cfg, 0);
-                self.place = turn_over(cfg, self.turns);
-            }
-            Want::Switch(space) => self.place = Place::Switching(space),
-            Want::Halted => self.place = Place::Leaving(End::Halted),
-            Want::Trap => self.place = Place::Leaving(End::Trapped),
-            Want::Access { .. } => unreachable!(),
-        }
-    }
-
-    /// Becomes active in a space, whose entries it looks at first.
-    fn switch(&mut self, cfg: &Config, space: u32)
-        requires at { self.old.state.place ≡ events.Switching space }
-        requires fits { Fits (machine cfg.now) self.old }
-        ensures state { (n : ℕ) → self.new.state ≡ followed_next (machine cfg.now) self.old n }
-        ensures actor { self.new.actor ≡ self.old.actor }
-        ensures room { self.new.room ≡ self.old.room }
-    {
-        self.journal.push(Item::Switch(Switch {
-            actor: self.q,
-            space,
-        }));
-        self.guest.after(cfg, 0);
-        self.atc.flush();
-        let moment = Moment::Activation;
-        self.place = scan_from(cfg, self.turns, space, 0, moment, Onward::TurnOver);
     }
 }

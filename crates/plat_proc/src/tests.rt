@@ -1,18 +1,21 @@
-//! A guest of four turns at most, against the operations of its run, which were worked out by hand.
-ghost use Rattle.std.specs.Prelude.{◌≡◌, IfOk};
-ghost use Rattle.plat_base.specs.Seen.{machine};
-ghost use Rattle.plat_proc.specs.Tried.{switching, switching_code};
+//! Two guests, against the operations of their runs, which were worked out by hand: one without an access, and one whose store
+//! finds its page empty.
+ghost use Rattle.std.specs.Prelude.{◌≡◌, IfOk, IsTrue};
+ghost use Rattle.plat_base.specs.Canon.{is_short};
+ghost use Rattle.plat_base.specs.Machine.{is_machine};
+ghost use Rattle.plat_proc.specs.Tried.{storing_code, switching_code, tried};
 
 use crate::{Proc, Stepped};
 use plat_base::{
-    Config, End, Entry, GuestText, Instr, Item, List, Op, OutOfMemory, Plan, PolicyKind, Switch,
+    Access, Action, Cause, Change, Config, Copies, Dir, End, Entry, Frame, Grant, GuestText, Instr,
+    Item, Kind, List, Op, OutOfMemory, Plan, PolicyKind, Removed, Right, State, Switch,
 };
 use plat_ports::{Made, RecordPort};
 use std::alloc::Global;
 use std::test::Fail;
 
 /// The guest `switch 0`, `print r0`, `halt`.
-fn program(alloc: Global) -> Result<List<Instr>, OutOfMemory>
+fn switching(alloc: Global) -> Result<List<Instr>, OutOfMemory>
     ensures { IfOk result (λ code. code.items ≡ switching_code) }
 {
     let mut code = List::with_room(alloc, 3)?;
@@ -22,9 +25,32 @@ fn program(alloc: Global) -> Result<List<Instr>, OutOfMemory>
     Ok(code)
 }
 
-/// A machine of one node and one page, which virtual page 0 of space 0 leads to, with that guest.
-fn small(alloc: Global) -> Result<Config, OutOfMemory>
-    ensures { IfOk result (λ cfg. machine cfg ≡ switching) }
+/// The guest `set r1 5`, `store r1 0`, `load r2 0`, `print r2`, `halt`.
+fn storing(alloc: Global) -> Result<List<Instr>, OutOfMemory>
+    ensures { IfOk result (λ code. code.items ≡ storing_code) }
+{
+    let mut code = List::with_room(alloc, 5)?;
+    code.push(Instr::Set { d: 1, n: 5 });
+    code.push(Instr::Store {
+        s: 1,
+        k: 0,
+        i: None,
+    });
+    code.push(Instr::Load {
+        d: 2,
+        k: 0,
+        i: None,
+    });
+    code.push(Instr::Print(2));
+    code.push(Instr::Halt);
+    Ok(code)
+}
+
+/// A machine of one node and one page, which virtual page 0 of space 0 leads to, with that guest. Its words are the time, the
+/// live processors, the active space, the interrupts, the directory, the stamp, the mask, the pool, and four of the frame.
+fn small(alloc: Global, code: List<Instr>) -> Result<Config, OutOfMemory>
+    requires limits { IsTrue (is_machine (tried code.items)) }
+    requires short { IsTrue (is_short (tried code.items)) }
 {
     let mut entries = List::with_room(alloc, 1)?;
     entries.push(Entry {
@@ -35,7 +61,7 @@ fn small(alloc: Global) -> Result<Config, OutOfMemory>
     let mut guests = List::with_room(alloc, 1)?;
     guests.push(GuestText {
         space: 0,
-        code: program(alloc)?,
+        code,
         labels: List::new(alloc),
     });
     Ok(Config {
@@ -59,7 +85,7 @@ fn made(at: usize, op: Op, found: u64) -> Made {
 
 #[test]
 fn a_guest_switches_prints_and_halts(rt: HostRuntime) -> Result<(), Fail> {
-    let cfg = small(rt.alloc())?;
+    let cfg = small(rt.alloc(), switching(rt.alloc())?)?;
     let mut port = RecordPort::new(rt.alloc(), &cfg, 10)?;
     let mut proc = Proc::new(rt.alloc(), &cfg, 0)?;
     assert!(rt; proc.at_turn());
@@ -89,5 +115,117 @@ fn a_guest_switches_prints_and_halts(rt: HostRuntime) -> Result<(), Fail> {
     let item = Item::Switch(Switch { actor: 0, space: 0 });
     assert_eq!(rt; proc.journal(), [item].as_slice());
     assert_eq!(rt; proc.finish().as_slice(), [item].as_slice());
+    Ok(())
+}
+
+const FRAME: Frame = Frame {
+    module: 0,
+    number: 0,
+};
+
+/// The change that fills the page for a store.
+fn filled() -> Change {
+    let before = Dir {
+        state: State::Empty,
+        frozen: false,
+        copies: Copies::none(),
+    };
+    let after = Dir {
+        state: State::Modified,
+        frozen: false,
+        copies: Copies::none().with(FRAME),
+    };
+    let grant = Grant {
+        entry: 0,
+        frame: FRAME,
+        right: Right::Write,
+    };
+    Change {
+        actor: 0,
+        page: 0,
+        seq: 0,
+        time: 2,
+        cause: Cause::Write,
+        action: Action::Fill,
+        removed: Removed::Nothing,
+        before,
+        after,
+        granted: Some(grant),
+    }
+}
+
+/// An access of word 0 that leaves 5 there.
+fn access(kind: Kind, old: u32) -> Access {
+    Access {
+        actor: 0,
+        kind,
+        space: 0,
+        addr: 0,
+        page: 0,
+        word: 0,
+        old,
+        new: 5,
+        version: 1,
+        frame: FRAME,
+        grant: 0,
+    }
+}
+
+/// The word of the stored 5 in its first version.
+const STORED: u64 = 4294967301;
+
+#[test]
+fn a_store_fills_its_page_and_a_load_finds_it(rt: HostRuntime) -> Result<(), Fail> {
+    let cfg = small(rt.alloc(), storing(rt.alloc())?)?;
+    let mut port = RecordPort::new(rt.alloc(), &cfg, 26)?;
+    let mut proc = Proc::new(rt.alloc(), &cfg, 0)?;
+    for _ in 0..25 {
+        assert_eq!(rt; proc.step(&cfg, &mut port), Stepped::More);
+    }
+    assert_eq!(rt; proc.step(&cfg, &mut port), Stepped::Ended(End::Halted));
+    let taken = Op::Exchange { old: 1, new: 0 };
+    let written = Op::Exchange {
+        old: 0,
+        new: STORED,
+    };
+    let events = [
+        made(3, Op::Swap(0), 0),
+        made(0, Op::Add(1), 0),
+        made(3, Op::Swap(0), 0),
+        made(0, Op::Add(1), 1),
+        made(4, Op::Or(8), 0),
+        made(5, Op::Load, 0),
+        made(7, Op::Load, 1),
+        made(7, taken, 1),
+        made(8, Op::Store(0), 0),
+        made(9, Op::Store(0), 0),
+        made(10, Op::Store(0), 0),
+        made(11, Op::Store(0), 0),
+        made(5, Op::Store(4294967296), 0),
+        made(6, Op::Or(1), 0),
+        made(4, Op::Store(259), 0),
+        made(8, Op::Load, 0),
+        made(8, written, 0),
+        made(3, Op::Swap(0), 0),
+        made(0, Op::Add(1), 2),
+        made(8, Op::Load, STORED),
+        made(3, Op::Swap(0), 0),
+        made(0, Op::Add(1), 3),
+        made(3, Op::Swap(0), 0),
+        made(0, Op::Add(1), 4),
+        made(2, Op::Swap(0), 1),
+        made(1, Op::Sub(1), 1),
+    ];
+    assert_eq!(rt; port.made(), events.as_slice());
+    assert_eq!(rt;
+        port.words(),
+        [5, 0, 0, 0, 259, 4294967296, 1, 0, STORED, 0, 0, 0].as_slice()
+    );
+    let items = [
+        Item::Change(filled()),
+        Item::Access(access(Kind::Store, 0)),
+        Item::Access(access(Kind::Load, 5)),
+    ];
+    assert_eq!(rt; proc.journal(), items.as_slice());
     Ok(())
 }

@@ -1,10 +1,11 @@
-use Rattle.std.proofs.Common.{Ok, ap, ◌∙◌}
+use Rattle.std.proofs.Common.{Ok, refl, ap, ◌∙◌}
 use Rattle.plat_cmd.specs.Arguments.{texts_of}
 use Rattle.plat_cmd.specs.Commands.{read_of}
 use Rattle.plat_cmd.specs.Promises.{Promises}
 use Rattle.plat_cmd.specs.declared.words.Command.{Command}
 use Rattle.plat_cmd.specs.declared.words.Command.TheVariants as command
-use Rattle.plat_cmd.proofs.PromiseLemmas.{named_by, not_bad, never_bad_words, printed_or_not, summed_or_not}
+use Rattle.plat_cmd.specs.declared.outcomes.Stop.TheVariants as stop
+use Rattle.plat_cmd.proofs.PromiseLemmas.{named_by, not_bad, never_bad_words, any_command, wanting, printed_or_not, summed_or_not}
 use Rattle.plat_cmd.proofs.commands.platinum.Goals as goal
 
 pub returns-in-Ok-Check-clause-named : goal.returns-in-Ok-Check-clause-named
@@ -117,3 +118,11 @@ returns-in-Ok-Cost-clause-bad_words g c =
 
 pub returns-in-Ok-Cost-clause-unread : goal.returns-in-Ok-Cost-clause-unread
 returns-in-Ok-Cost-clause-unread g c = λ bad. absurd (never_bad_words c.cost.ensures bad)
+
+pub returns-in-Err-OutOfMemory-clause-named : goal.returns-in-Err-OutOfMemory-clause-named
+returns-in-Err-OutOfMemory-clause-named g c =
+    let out = c.without_run-in-Err-OutOfMemory in
+    any_command (read_of (texts_of c.args.words.now))
+    (λ d. Promises d g.S.Source g.K.Sink c.args.source.now c.args.source.now c.args.sink.now c.args.sink.now out.result)
+    (λ d. wanting g.S.Source g.K.Sink c.args.source.now c.args.sink.now c.args.sink.now out.result d
+    (record { ended = out.ensures.status; history = out.ensures.kept; sink = refl }))

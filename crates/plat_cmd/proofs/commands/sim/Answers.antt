@@ -7,25 +7,24 @@ use Rattle.plat_cmd.specs.declared.words.Command.{Command}
 use Rattle.plat_cmd.specs.declared.words.Command.TheVariants as command
 use Rattle.plat_cmd.specs.declared.words.Grain.{Grain}
 use Rattle.plat_cmd.specs.declared.words.Output.{Output}
-use Rattle.plat_cmd.specs.declared.words.Grain.TheVariants as grain
 use Rattle.plat_cmd.specs.declared.words.Output.TheVariants as output
 use Rattle.plat_cmd.specs.declared.outcomes.Stop.TheVariants as stop
 use Rattle.plat_cmd.proofs.PromiseLemmas.{did, stopped, told_all, told_as, only_it, stop_is, not_refused}
 use Rattle.plat_cmd.proofs.commands.sim.Goals as goal
 
--- the one grain, and the output of this arm
-of_grain : (gr : Grain) (o p : Output) → o ≡ p → (P : Command → Type 0) → P (command.Sim grain.Coarse p) → P (command.Sim gr o)
-of_grain grain.Coarse o p same P holds = subst (λ (x : Output). P (command.Sim grain.Coarse x)) (sym same) holds
+-- the output of this arm
+of_output : (gr : Grain) (o p : Output) → o ≡ p → (P : Command → Type 0) → P (command.Sim gr p) → P (command.Sim gr o)
+of_output gr o p same P holds = subst (λ (x : Output). P (command.Sim gr x)) (sym same) holds
 
-pub returns-in-Coarse-Report : goal.returns-in-Coarse-Report
-returns-in-Coarse-Report g c =
-    let sim = command.Sim grain.Coarse output.Report in
+pub returns-in-Report : goal.returns-in-Report
+returns-in-Report g c =
+    let sim = command.Sim c.args.grain output.Report in
     let told = g.S.Source.left c.args.source.now in
     let left = g.S.Source.left c.read_machine.new.source in
     let read = c.read_machine.result in
     let m = machine c.in-Ok.cfg in
     let out = c.simulate.result in
-    of_grain c.args.grain c.args.output output.Report c.in-Coarse-Report.is-1
+    of_output c.args.grain c.args.output output.Report c.in-Report.is
     (λ d. Promises d g.S.Source g.K.Sink c.args.source.now c.read_machine.new.source c.args.sink.now c.simulate.new.sink out)
     (⊎_elim
     (λ run. did sim g.S.Source g.K.Sink c.args.source.now c.read_machine.new.source c.args.sink.now c.simulate.new.sink out m
@@ -34,15 +33,15 @@ returns-in-Coarse-Report g c =
     (λ has. stopped sim g.S.Source g.K.Sink c.args.source.now c.read_machine.new.source c.args.sink.now c.simulate.new.sink out stop.OutOfMemory tt tt has
     (told_all machine_text told (λ it. IsNoRefusal (stop_status stop.OutOfMemory)) (λ it. inr refl)) c.read_machine.ensures.count) c.simulate.ensures)
 
-pub returns-in-Coarse-Trace : goal.returns-in-Coarse-Trace
-returns-in-Coarse-Trace g c =
-    let sim = command.Sim grain.Coarse output.Trace in
+pub returns-in-Trace : goal.returns-in-Trace
+returns-in-Trace g c =
+    let sim = command.Sim c.args.grain output.Trace in
     let told = g.S.Source.left c.args.source.now in
     let left = g.S.Source.left c.read_machine.new.source in
     let read = c.read_machine.result in
     let m = machine c.in-Ok.cfg in
     let out = c.trace.result in
-    of_grain c.args.grain c.args.output output.Trace c.in-Coarse-Trace.is-1
+    of_output c.args.grain c.args.output output.Trace c.in-Trace.is
     (λ d. Promises d g.S.Source g.K.Sink c.args.source.now c.read_machine.new.source c.args.sink.now c.trace.new.sink out)
     (⊎_elim
     (λ run. did sim g.S.Source g.K.Sink c.args.source.now c.read_machine.new.source c.args.sink.now c.trace.new.sink out m

@@ -35,6 +35,6 @@ returns g c =
       coherent = good_is_coherent h.machine (policy_answer h.machine.policy) h.items h.ends c.requires.good;
       written =
           written_by g.K.Sink c.args.sink.now c.report-written.new.sink c.report-written.result (report h.machine h.items h.ends) complete c.status_after.result
-          (no_write_fault h.ends) now_is written;
+          (no_write_fault h.ends false) now_is written;
       ended = ended_by c.report-written.result complete c.status_after.result now_is;
     }

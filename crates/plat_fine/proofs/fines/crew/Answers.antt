@@ -1,5 +1,4 @@
-use Rattle.std.proofs.Common.{◌≡◌, ◌∷◌, [], ◌++◌, map, List, ap, sym, ◌∙◌, subst, arith}
-use Rattle.std.proofs.lemmas.List.FromFn.{map-range_with_len_more}
+use Rattle.std.proofs.Common.{◌∷◌, [], ◌++◌, map, List, ap, sym, ◌∙◌, subst, arith}
 use Rattle.plat_base.specs.Pages.{numbers}
 use Rattle.plat_base.specs.Seen.{machine}
 use Rattle.plat_events.specs.Privates.{Private, first_private}

@@ -1,16 +1,16 @@
-use Rattle.std.proofs.Common.{◌≡◌, ℕ, ◌+◌, ◌*◌, ◌<◌, true, false, List, [], ◌∷◌, ◌++◌, length, replicate, ap, sym, ◌∙◌, refl, subst, arith, length-append, length-set}
+use Rattle.std.proofs.Common.{◌≡◌, ℕ, ◌+◌, ◌*◌, ◌<◌, ◌≤◌, true, false, List, [], ◌∷◌, ◌++◌, length, replicate, ap, sym, ◌∙◌, refl, subst, arith, length-append, length-set}
 use Rattle.std.specs.Prelude.{IsTrue, ⊤, slice_index, slice_index_or, slice_set}
 use Rattle.std.specs.List.{sum}
-use Rattle.std.specs.List.Sorted.{IsNonDecreasingBy}
 use Rattle.std.proofs.lemmas.List.{length-replicate}
 use Rattle.plat_base.specs.Rooms.{journal_rooms, fit_rooms}
 use Rattle.plat_base.specs.Seen.{machine}
 use Rattle.plat_base.specs.declared.configs.Config.{Config}
 use Rattle.plat_base.specs.declared.limits.TheConstants.{MOST_ITEMS}
-use Rattle.plat_events.specs.Merges.{Journals}
+use Rattle.plat_events.specs.Merges.{Journals, items_left}
+use Rattle.plat_merge.specs.declared.totals.Totals.{Totals}
 use Rattle.plat_merge.specs.RoomSeen.{RoomSeen, HaveGoodHistory}
 use Rattle.plat_merge.specs.Counts.{no_page, is_within, stands_by}
-use Rattle.plat_merge.specs.Keys.{first_count}
+use Rattle.plat_merge.specs.Keys.{AreBlank, HaveRows}
 use Rattle.plat_merge.specs.Heads.{head_passes}
 use Rattle.plat_merge.specs.Placing.{words_placed}
 use Rattle.plat_merge.proofs.HeadLemmas.{get-some, passes-head, one-left, at-none}
@@ -27,43 +27,45 @@ ready cfg rooms lists made good fits = mergeable (machine cfg) lists cfg.limits 
 most_is : MOST_ITEMS ≡ 2621440
 most_is = refl
 
-pub gather-totals-requires-clause-within : goal.gather-totals-requires-clause-within
-gather-totals-requires-clause-within c =
+-- tables with room for more items are blank for fewer
+blank-less : (more fewer : ℕ) (t : Totals) → fewer ≤ more → AreBlank more t → AreBlank fewer t
+blank-less more fewer t l b = record {
+  loads = record { ones = b.loads.ones; zeros = b.loads.zeros; room = omega (arith, l, b.loads.room) };
+  uses = record { ones = b.uses.ones; zeros = b.uses.zeros; room = omega (arith, l, b.uses.room) };
+  writes = record { ones = b.writes.ones; zeros = b.writes.zeros; room = omega (arith, l, b.writes.room) };
+  few_loads = b.few_loads;
+  few_uses = b.few_uses;
+  few_writes = b.few_writes;
+}
+
+pub gather-requires-clause-within : goal.gather-requires-clause-within
+gather-requires-clause-within c =
     (ready c.args.cfg.now c.args.journals.now.rooms c.args.journals.now.lists c.requires.made c.requires.good c.of-first.ensures.fits).within
 
-pub gather-totals-requires-clause-few : goal.gather-totals-requires-clause-few
-gather-totals-requires-clause-few c =
+pub gather-requires-clause-few : goal.gather-requires-clause-few
+gather-requires-clause-few c =
     let r = ready c.args.cfg.now c.args.journals.now.rooms c.args.journals.now.lists c.requires.made c.requires.good c.of-first.ensures.fits in
     omega (arith, r.left, r.few, most_is)
 
-pub gather-totals-requires-clause-loads_room : goal.gather-totals-requires-clause-loads_room
-gather-totals-requires-clause-loads_room c =
-    let r = ready c.args.cfg.now c.args.journals.now.rooms c.args.journals.now.lists c.requires.made c.requires.good c.of-first.ensures.fits in
-    omega (arith, r.left, ap (λ (x : RoomSeen). x.items) c.room.view_is, c.requires.room.items, c.room.invariant.loads_room)
-
-pub gather-totals-requires-clause-uses_room : goal.gather-totals-requires-clause-uses_room
-gather-totals-requires-clause-uses_room c =
-    let r = ready c.args.cfg.now c.args.journals.now.rooms c.args.journals.now.lists c.requires.made c.requires.good c.of-first.ensures.fits in
-    omega (arith, r.left, ap (λ (x : RoomSeen). x.items) c.room.view_is, c.requires.room.items, c.room.invariant.uses_room)
-
-pub gather-totals-requires-clause-writes_room : goal.gather-totals-requires-clause-writes_room
-gather-totals-requires-clause-writes_room c =
-    let r = ready c.args.cfg.now c.args.journals.now.rooms c.args.journals.now.lists c.requires.made c.requires.good c.of-first.ensures.fits in
-    omega (arith, r.left, ap (λ (x : RoomSeen). x.items) c.room.view_is, c.requires.room.items, c.room.invariant.writes_room)
-
-pub begin-requires-clause-sorted : goal.begin-requires-clause-sorted
-begin-requires-clause-sorted c = subst (λ ks. IsNonDecreasingBy (λ n. n) ks) (sym c.deref.ensures.value) c.gather-totals.result.loads_sorted
+pub gather-requires-clause-blank : goal.gather-requires-clause-blank
+gather-requires-clause-blank c =
+    let lists = c.args.journals.now.lists in
+    let r = ready c.args.cfg.now c.args.journals.now.rooms lists c.requires.made c.requires.good c.of-first.ensures.fits in
+    blank-less c.room.inside.most (items_left lists) c.room.inside.totals
+    (omega (arith, r.left, ap (λ (x : RoomSeen). x.items) c.room.view_is, c.requires.room.items)) c.room.invariant.tables
 
 pub loop-init : goal.loop-init
 loop-init c =
     let m = machine c.args.cfg.now in
     let lists = c.args.journals.now.lists in
-    let t = c.gather-totals.result in
+    let t = c.gather.new.self in
     let r = ready c.args.cfg.now c.args.journals.now.rooms lists c.requires.made c.requires.good c.of-first.ensures.fits in
     let most : c.room.inside.most ≡ sum (journal_rooms m) = omega (arith, ap (λ (x : RoomSeen). x.items) c.room.view_is, c.requires.room.items) in
     let pages : c.room.inside.pages ≡ c.args.cfg.now.pages = omega (arith, ap (λ (x : RoomSeen). x.pages) c.room.view_is, c.requires.room.pages) in
     let words : c.room.inside.counts.page_words ≡ c.args.cfg.now.words = omega (arith, ap (λ (x : RoomSeen). x.words) c.room.view_is, c.requires.room.words) in
-    let knows = totals-known m r.items lists r.has r.small t c.gather-totals.ensures.loads c.gather-totals.ensures.uses c.gather-totals.ensures.writes in
+    let rows : HaveRows m.pages m.words c.room.inside.totals =
+    subst (λ n. HaveRows n m.words c.room.inside.totals) pages (subst (λ n. HaveRows c.room.inside.pages n c.room.inside.totals) words c.room.invariant.rows) in
+    let knows = totals-known m r.items r.items_within r.answer r.kept lists r.has c.room.inside.totals t rows c.gather.ensures in
     let all_pages : length c.room.inside.counts.pages.items ≡ c.args.cfg.now.pages = ap length c.room.invariant.blank ∙ (length-replicate c.room.inside.pages no_page ∙ pages) in
     let size : length c.begin.new.self.words.items ≡ c.args.cfg.now.pages * c.args.cfg.now.words =
     c.begin.ensures.size
@@ -71,14 +73,14 @@ loop-init c =
     ∙ (ap (λ n. n * c.room.inside.counts.page_words) all_pages ∙ ap (λ w. c.args.cfg.now.pages * w) words)) in
     let blank = c.begin.ensures.pages ∙ (c.room.invariant.blank ∙ ap (λ n. replicate n no_page) pages) in
     let shows = start-shown m t r.items c.begin.new.self.words.items c.begin.new.self.pages.items knows size blank
-    (λ cell l. c.begin.ensures.words cell (omega (arith, l, c.begin.ensures.size)) ∙ ap (λ ks. first_count ks cell) c.deref.ensures.value) in
-    let way = merging-start m r.answer t lists r.items c.begin.new.self.words.items c.begin.new.self.pages.items 9 c.room.inside.most r.has r.kept r.small knows shows (omega (arith, r.left, most)) in
+    (λ cell l. c.begin.ensures.words cell (omega (arith, l, c.begin.ensures.size))) in
+    let way = merging-start m r.answer t lists r.items c.begin.new.self.words.items c.begin.new.self.pages.items 9 c.room.inside.most r.has r.kept r.items_within knows shows (omega (arith, r.left, most)) in
     record {
       way =
           subst (λ ps. IsMerging m t lists (0 ∷ 0 ∷ 0 ∷ 0 ∷ 0 ∷ 0 ∷ 0 ∷ 0 ∷ 0 ∷ []) ps c.begin.new.self.words.items c.begin.new.self.pages.items c.room.inside.most)
-          (sym c.room.invariant.placed) way;
+          (sym c.room.invariant.empty) way;
       same = c.begin.ensures.same ∙ words;
-      placed = ap length c.room.invariant.placed;
+      placed = ap length c.room.invariant.empty;
       spare = omega (arith, c.room.invariant.room);
       places = refl;
     }
@@ -89,7 +91,7 @@ ready_actor-requires-clause-few c = omega (arith, ap length c.requires.made, roo
 pub ready_actor-requires-clause-within : goal.ready_actor-requires-clause-within
 ready_actor-requires-clause-within c = λ actor i h.
     let m = machine c.args.cfg.now in
-    let there = merging-within m c.gather-totals.result c.args.journals.now.lists c.loop.next c.loop.placed.items c.loop.counts.words.items c.loop.counts.pages.items c.room.inside.most c.loop.invariant.way actor i h in
+    let there = merging-within m c.gather.new.self c.args.journals.now.lists c.loop.next c.loop.placed.items c.loop.counts.words.items c.loop.counts.pages.items c.room.inside.most c.loop.invariant.way actor i h in
     subst (λ n. IsTrue (is_within n c.loop.counts.page_words i)) (sym c.loop.invariant.way.way.shows.all_pages)
     (subst (λ w. IsTrue (is_within m.pages w i)) (sym c.loop.invariant.same) there)
 
@@ -103,7 +105,7 @@ returns-in_default c =
     at-none
     ((k : ℕ) → k < c.actors-actors.result → head_passes (stands_by c.loop.counts.page_words c.loop.counts.words.items c.loop.counts.pages.items) lists c.loop.next k ≡ false)
     (λ _. ⊤) c.ready_actor.result c.ready_actor.ensures.none c.in_default.not-Some in
-    sym (merging-none m c.gather-totals.result lists c.loop.next c.loop.placed.items c.loop.counts.words.items c.loop.counts.pages.items c.room.inside.most c.actors-actors.result c.loop.invariant.way size
+    sym (merging-none m c.gather.new.self lists c.loop.next c.loop.placed.items c.loop.counts.words.items c.loop.counts.pages.items c.room.inside.most c.actors-actors.result c.loop.invariant.way size
     (subst (λ w. (k : ℕ) → k < c.actors-actors.result → head_passes (stands_by w c.loop.counts.words.items c.loop.counts.pages.items) lists c.loop.next k ≡ false) c.loop.invariant.same none))
 
 pub bounds-next-actor : goal.bounds-next-actor
@@ -133,7 +135,7 @@ place-requires c =
     let h = get-some (slice_index_or lists a []) (slice_index c.loop.next a) i head (c.index-of-next.is ∙ ap (λ j. slice_index_or j (slice_index c.loop.next a) i) c.of.ensures.value) in
     let chosen = subst (λ w. head_passes (stands_by w c.loop.counts.words.items c.loop.counts.pages.items) lists c.loop.next a ≡ true) c.loop.invariant.same c.in-Some.ensures.some in
     let lower = subst (λ w. (k : ℕ) → k < a → head_passes (stands_by w c.loop.counts.words.items c.loop.counts.pages.items) lists c.loop.next k ≡ false) c.loop.invariant.same c.in-Some.ensures.lowest in
-    merging-place m c.gather-totals.result lists c.loop.next c.loop.placed.items c.loop.counts c.room.inside.most c.loop.invariant.way a i h chosen lower
+    merging-place m c.gather.new.self lists c.loop.next c.loop.placed.items c.loop.counts c.room.inside.most c.loop.invariant.way a i h chosen lower
     (omega (arith, c.in-Some.ensures.actor, c.actors-actors.ensures, r.lists)) (omega (arith, c.in-Some.ensures.actor, c.actors-actors.ensures, rooms-few m c.args.cfg.now.limits, c.loop.invariant.places))
     c.loop.invariant.same (omega (arith, ap (λ (x : RoomSeen). x.items) c.room.view_is, c.requires.room.items, r.few, most_is))
 
@@ -153,7 +155,7 @@ bounds-next-actor-in-loop-2 c = omega (arith, c.in-Some.ensures.actor, c.actors-
 pub loop-preserved : goal.loop-preserved
 loop-preserved c =
     let m = machine c.args.cfg.now in
-    let t = c.gather-totals.result in
+    let t = c.gather.new.self in
     let lists = c.args.journals.now.lists in
     let r = ready c.args.cfg.now c.args.journals.now.rooms lists c.requires.made c.requires.good c.of-first.ensures.fits in
     let a = c.in-Some.actor in

@@ -2,7 +2,7 @@ use Rattle.std.proofs.Common.{◌≡◌, false, length}
 use Rattle.plat_base.specs.Seen.{machine}
 use Rattle.plat_events.specs.Places.{word_count}
 use Rattle.plat_events.specs.Privates.{is_over}
-use Rattle.plat_proc.specs.Within.{Fits}
+use Rattle.plat_proc.specs.Fits.{Fits}
 use Rattle.plat_proc.proofs.tests.a_guest_switches_prints_and_halts.Given as goal
 
 abbrev pub invariant-loop : goal.invariant-loop

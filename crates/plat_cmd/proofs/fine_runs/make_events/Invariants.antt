@@ -1,0 +1,10 @@
+use Rattle.std.proofs.Common.{◌≡◌}
+use Rattle.plat_cmd.specs.Steps.{standing_fine, after_events}
+use Rattle.plat_cmd.proofs.fine_runs.make_events.Given as goal
+
+abbrev pub invariant-loop-event : goal.invariant-loop-event
+invariant-loop-event l = record {
+  config : l.fine.machine ≡ l.fn.fine.machine;
+  plan : l.schedule.turns ≡ l.fn.fine.machine.schedule;
+  run : standing_fine l.fine l.schedule ≡ after_events l.fn.fine.machine l._event;
+}

@@ -1,0 +1,4 @@
+pub mod Places
+pub mod DaemonSeen
+pub mod Fits
+pub mod Tried
