@@ -1,0 +1,11 @@
+pub mod RunLemmas
+pub mod CrewLemmas
+pub mod RuleLemmas
+pub mod PortLemmas
+pub mod ActorLemmas
+pub mod RiseLemmas
+pub mod RiderLemmas
+pub mod BoardLemmas
+pub mod ClosedLemmas
+pub mod GoodLemmas
+pub mod TriedLemmas

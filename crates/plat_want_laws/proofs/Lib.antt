@@ -1,0 +1,4 @@
+pub mod NearLaws
+pub mod PhaseLaws
+pub mod PlaceLaws
+pub mod WantLaws
