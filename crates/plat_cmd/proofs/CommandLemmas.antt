@@ -1,6 +1,6 @@
 -- words that are not plain name no command
 use Rattle.std.proofs.Common.{◌≡◌, ℕ, Bool, true, false, List, [], ◌∷◌, Result, Ok, Err, codes, refl, sym, ap, ◌∙◌, if◌then◌else◌, arith}
-use Rattle.std.specs.Prelude.{IfOk, ◌==◌, not, nat_lt, ◌^◌}
+use Rattle.std.specs.Prelude.{IfOk, IfErr, ◌==◌, not, nat_lt, ◌^◌}
 use Rattle.std.specs.Str.{bytes_eq}
 use Rattle.std.specs.Char.{is_ascii_digit}
 use Rattle.std.proofs.lemmas.Bool.{and_parts, true≢false}
@@ -13,7 +13,7 @@ use Rattle.plat_cmd.specs.Commands.{same_words, with_number, numbered_of, read_o
 use Rattle.std.specs.Str.Parse.{digits_value}
 use Rattle.plat_base.specs.declared.faults.Why.TheVariants.{TooLarge, NotNumber}
 use Rattle.plat_cmd.specs.declared.words.Command.{Command}
-use Rattle.plat_cmd.specs.declared.words.Command.TheVariants.{Check, Sim, Replay, Race, Cost, Gen, Big}
+use Rattle.plat_cmd.specs.declared.words.Command.TheVariants.{Check, Sim, Run, Replay, Race, Cost, Gen, Big}
 use Rattle.plat_cmd.specs.declared.words.Grain.TheVariants.{Coarse, Fine}
 use Rattle.plat_cmd.specs.declared.words.Output.TheVariants.{Report, Trace}
 use Rattle.plat_cmd.specs.declared.words.WordsFault.{WordsFault}
@@ -88,9 +88,11 @@ command-plain words c h =
     (or_words words (codes "sim" ∷ codes "coarse" ∷ codes "trace" ∷ []) (Sim Coarse Trace) c _ refl
     (or_words words (codes "sim" ∷ codes "fine" ∷ []) (Sim Fine Report) c _ refl
     (or_words words (codes "sim" ∷ codes "fine" ∷ codes "trace" ∷ []) (Sim Fine Trace) c _ refl
+    (or_words words (codes "run" ∷ []) (Run Report) c _ refl
+    (or_words words (codes "run" ∷ codes "trace" ∷ []) (Run Trace) c _ refl
     (or_words words (codes "replay" ∷ []) Replay c _ refl
     (or_words words (codes "race" ∷ []) Race c _ refl
-    (or_words words (codes "cost" ∷ []) Cost c _ refl (numbered-plain words c)))))))) h
+    (or_words words (codes "cost" ∷ []) Cost c _ refl (numbered-plain words c)))))))))) h
 
 -- words that are not plain name no command
 pub unplain : (words : List (List ℕ)) (P : Command → Type 0) → are_plain words ≡ false → IfOk (read_of words) P
@@ -99,3 +101,12 @@ unplain words P h = by (read_of words) refl
     by : (r : Result Command WordsFault) → read_of words ≡ r → IfOk r P
     by (Ok c) e = absurd (true≢false (sym (command-plain words c e) ∙ h))
     by (Err f) e = tt
+
+-- what follows for each command, or for each fault
+pub named-as : (r : Result Command WordsFault) (P Q : Command → Type 0) → ((d : Command) → P d → Q d) → IfOk r P → IfOk r Q
+named-as (Ok d) P Q h holds = h d holds
+named-as (Err f) P Q h holds = tt
+
+pub unnamed-as : (r : Result Command WordsFault) (P Q : WordsFault → Type 0) → ((f : WordsFault) → P f → Q f) → IfErr r P → IfErr r Q
+unnamed-as (Ok d) P Q h holds = tt
+unnamed-as (Err f) P Q h holds = h f holds

@@ -170,7 +170,7 @@ module _ (m : Machine) (answer : Answer) (items : List Item) (ends : List Ended)
       by : (q : ℕ) → q < length ends → same_end (ended_of ends q).end end.NoFrames ≡ false
       by q l = let inside : q < m.nodes = omega (arith, run.one.all_end, l) in not_starved (ended_of ends q).end (run.framed enough q inside)
 
-  uncut_status : (now : Status) → now ≡ status_of ends false → IsDoneWithMemory now ⊎ LacksFrames m now
+  pub uncut_status : (now : Status) → now ≡ status_of ends false → IsDoneWithMemory now ⊎ LacksFrames m now
   uncut_status now is =
       ⊎_elim (λ enough. inl (inl (is ∙ done_status (ends_as end.NoFrames ends) (ends_as end.Spent ends) (none_starved (leb-true m.pages m.frames enough)) none_spent)))
       (λ few. ⊎_elim (λ done. inl (inl (is ∙ done))) (λ starved. inr (leb-false m.pages m.frames few, is ∙ starved))

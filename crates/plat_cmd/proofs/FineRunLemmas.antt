@@ -1,6 +1,6 @@
 -- the run of single operations of the schedule is that of the definition
-use Rattle.std.proofs.Common.{◌≡◌, ℕ, zero, suc, ◌+◌, ◌<◌, ◌≤◌, leb, ⊎_elim, if◌then◌else◌, Bool, true, false, List, [], ◌∷◌, length, map, filter, refl, sym, ap, subst, ◌∙◌, arith}
-use Rattle.std.specs.Prelude.{Option, None, Some, slice_get, slice_set}
+use Rattle.std.proofs.Common.{◌≡◌, ℕ, zero, suc, ◌+◌, ◌<◌, ◌≤◌, leb, ⊎_elim, if◌then◌else◌, Bool, true, false, List, [], ◌∷◌, length, filter, refl, sym, ap, subst, ◌∙◌, arith}
+use Rattle.std.specs.Prelude.{Option, None, Some, slice_get}
 use Rattle.std.proofs.lemmas.Bool.{cases_Bool, leb-true, leb-false}
 use Rattle.std.proofs.lemmas.Bool.Decides.{nat_tests}
 use Rattle.std.proofs.lemmas.List.{length-map, length-set}
@@ -23,7 +23,8 @@ use Rattle.plat_cmd.proofs.StepLemmas.{next_is, over_is}
 
 -- ---- live actors
 
-filter-among : (test : ℕ → Bool) (xs : List ℕ) (a : ℕ) → among a (filter test xs) ≡ true → test a ≡ true
+-- what is in a filtered list passes the filter
+pub filter-among : (test : ℕ → Bool) (xs : List ℕ) (a : ℕ) → among a (filter test xs) ≡ true → test a ≡ true
 filter-among test [] a h = absurd cc
 filter-among test (x ∷ xs) a h = grind (arith, nat_tests, filter-among test xs a)
 

@@ -11,3 +11,4 @@ pub mod GoodLemmas
 pub mod RaceLemmas
 pub mod JudgingLemmas
 pub mod RunDoneLemmas
+pub mod ThreadRunLemmas

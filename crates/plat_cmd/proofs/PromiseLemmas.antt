@@ -7,6 +7,7 @@ use Rattle.plat_base.specs.declared.endings.End.TheVariants as end
 use Rattle.plat_base.specs.declared.configs.Config.{Config}
 use Rattle.plat_base.specs.declared.endings.Ended.{Ended}
 use Rattle.plat_base.specs.declared.items.Item.{Item}
+use Rattle.plat_base.specs.Verdicts.{policy_answer}
 use Rattle.plat_base.specs.declared.statuses.Bad.{Bad}
 use Rattle.plat_base.specs.declared.statuses.Status.{Status}
 use Rattle.plat_base.specs.declared.statuses.Status.TheVariants as status
@@ -21,6 +22,7 @@ use Rattle.plat_io.specs.Streams.{HasRisen, IsAtEnd}
 use Rattle.plat_io.specs.declared.sinks.Sink.{Ghosts}
 use Rattle.plat_io.specs.declared.sources.Source.{Ghosts as Reader}
 use Rattle.plat_gen.specs.Generated.{generated}
+use Rattle.plat_table.specs.Closed.{ClosedSeen}
 use Rattle.plat_cmd.specs.Inputs.{Input, machine_text, history_text, nothing, input_of, reads_some, Told, IsToldAs, IsToldHistory, IsRead, HasRead, IfTold, IsFault}
 use Rattle.plat_cmd.specs.Works.{HasPrinted, HasSummed, HasDone, bad_of, first_bad_of, IsFirstBad, IsComplete, ends_of, is_limited, is_run, is_judge, may_reach_limit, may_end}
 use Rattle.plat_cmd.specs.Judgings.{HasFailed}
@@ -33,7 +35,7 @@ use Rattle.plat_cmd.specs.declared.words.WordsFault.TheVariants as words
 use Rattle.plat_cmd.specs.declared.outcomes.Outcome.{Outcome}
 use Rattle.plat_cmd.specs.declared.outcomes.Stop.{Stop}
 use Rattle.plat_cmd.specs.declared.outcomes.Stop.TheVariants as stop
-use Rattle.plat_cmd.proofs.EndingLemmas.{is_run_status, run_status, unlimited_status, silent_run, told_no_refusal, told_no_bad, finished_status, done_status}
+use Rattle.plat_cmd.proofs.EndingLemmas.{is_run_status, run_status, unlimited_status, silent_run, told_no_refusal, told_no_bad, uncut_status, finished_status, done_status}
 
 -- ---- a command that did its work
 
@@ -54,11 +56,13 @@ may_be_limited : (ends : List Ended) (limit : Bool) → status_of ends limit ≡
 may_be_limited ends true is = refl
 may_be_limited ends false is = absurd (unlimited_status ends is)
 
-module _ {K : Type 0} (sink : Ghosts K) (old new : K) (now : Status) (kept : List Item) where
-  done_is_told : (c : Command) (it : Told (input_of c)) → HasDone c sink it old new now kept → is_silent now ≡ false
+module _ {K : Type 0} (sink : Ghosts K) (old new : K) (now : Status) (kept : List Item) (ran : Option ClosedSeen) where
+  done_is_told : (c : Command) (it : Told (input_of c)) → HasDone c sink it old new now kept ran → is_silent now ≡ false
   done_is_told command.Check m done = ⊎_elim (λ is. ap is_silent is) (λ is. ap is_silent is) done.ended
   done_is_told (command.Sim g o) m done =
       ⊎_elim (λ is. ap is_silent is ∙ silent_run (status_of (ends_of g m) (is_limited g)) (run_status (ends_of g m) (is_limited g))) (λ is. ap is_silent is) done.ended
+  done_is_told (command.Run o) m done =
+      ⊎_elim (λ is. ap is_silent is ∙ silent_run (status_of done.left.ends false) (run_status done.left.ends false)) (λ is. ap is_silent is) done.ended
   done_is_told (command.Gen n) it done = ⊎_elim (λ is. ap is_silent is) (λ is. ap is_silent is) done.ended
   done_is_told (command.Big n) it done = ⊎_elim (λ is. ap is_silent is) (λ is. ap is_silent is) done.ended
   done_is_told command.Race h done = ⊎_elim (λ is. ap is_silent is) (λ is. ap is_silent is) done.ended
@@ -66,13 +70,18 @@ module _ {K : Type 0} (sink : Ghosts K) (old new : K) (now : Status) (kept : Lis
   done_is_told command.Replay h done =
       ⊎_elim (λ is. ap is_silent is ∙ silent_run (status_of h.ends false) (run_status h.ends false)) (λ is. ap is_silent is) done.ended
 
-  done_may_end : (c : Command) (it : Told (input_of c)) → HasDone c sink it old new now kept → may_end c now ≡ true
+  done_may_end : (c : Command) (it : Told (input_of c)) → HasDone c sink it old new now kept ran → may_end c now ≡ true
   done_may_end command.Check m done = ⊎_elim (λ is. ap (may_end command.Check) is) (λ is. ap (may_end command.Check) is) done.ended
   done_may_end (command.Sim g o) m done =
       ⊎_elim
       (λ is. ap (may_end (command.Sim g o)) is
       ∙ may_run (command.Sim g o) refl (status_of (ends_of g m) (is_limited g)) (run_status (ends_of g m) (is_limited g)) (may_be_limited (ends_of g m) (is_limited g)))
       (λ is. ap (may_end (command.Sim g o)) is) done.ended
+  done_may_end (command.Run o) m done =
+      ⊎_elim
+      (λ is. ap (may_end (command.Run o)) is
+      ∙ may_run (command.Run o) refl (status_of done.left.ends false) (run_status done.left.ends false) (may_be_limited done.left.ends false))
+      (λ is. ap (may_end (command.Run o)) is) done.ended
   done_may_end (command.Gen n) it done = ⊎_elim (λ is. ap (may_end (command.Gen n)) is) (λ is. ap (may_end (command.Gen n)) is) done.ended
   done_may_end (command.Big n) it done = ⊎_elim (λ is. ap (may_end (command.Big n)) is) (λ is. ap (may_end (command.Big n)) is) done.ended
   done_may_end command.Race h done = ⊎_elim (λ is. ap (may_end command.Race) is) (λ is. ap (may_end command.Race) is) done.ended
@@ -80,19 +89,22 @@ module _ {K : Type 0} (sink : Ghosts K) (old new : K) (now : Status) (kept : Lis
   done_may_end command.Replay h done =
       ⊎_elim (λ is. ap (may_end command.Replay) is ∙ may_run command.Replay refl (status_of h.ends false) (run_status h.ends false) (may_be_limited h.ends false)) (λ is. ap (may_end command.Replay) is) done.ended
 
-  done_has_written : (c : Command) (it : Told (input_of c)) → HasDone c sink it old new now kept → now ≡ status.WriteFault → HasRisen (sink.faults old) (sink.faults new)
+  done_has_written : (c : Command) (it : Told (input_of c)) → HasDone c sink it old new now kept ran → now ≡ status.WriteFault → HasRisen (sink.faults old) (sink.faults new)
   done_has_written command.Check m done = done.written.risen
   done_has_written (command.Sim g o) m done = done.written.risen
+  done_has_written (command.Run o) m done = done.written.risen
   done_has_written (command.Gen n) it done = done.written.risen
   done_has_written (command.Big n) it done = done.written.risen
   done_has_written command.Replay h done = done.written.risen
   done_has_written command.Race h done = done.written.risen
   done_has_written command.Cost h done = done.written.risen
 
-  pub done_complete : (c : Command) (it : Told (input_of c)) → HasDone c sink it old new now kept → IsQuiet (sink.faults old) (sink.faults new) → IsComplete c it now kept
+  pub done_complete : (c : Command) (it : Told (input_of c)) → HasDone c sink it old new now kept ran → IsQuiet (sink.faults old) (sink.faults new) → IsComplete c it now kept
   done_complete command.Check m done quiet = ⊎_elim (λ is. inl is) (λ fault. absurd (quiet (done.written.risen fault))) done.ended
   done_complete (command.Sim g o) m done quiet = λ guests.
       ⊎_elim (λ is. finished_status g m kept done.coherent guests now is) (λ fault. absurd (quiet (done.written.risen fault))) done.ended
+  done_complete (command.Run o) m done quiet = λ guests.
+      ⊎_elim (λ is. uncut_status m (policy_answer m.policy) kept done.left.ends done.run.coherent guests now is) (λ fault. absurd (quiet (done.written.risen fault))) done.ended
   done_complete (command.Gen n) it done quiet = ⊎_elim (λ is. inl is) (λ fault. absurd (quiet (done.written.risen fault))) done.ended
   done_complete (command.Big n) it done quiet = ⊎_elim (λ is. inl is) (λ fault. absurd (quiet (done.written.risen fault))) done.ended
   done_complete command.Race h done quiet = λ good. ⊎_elim (λ is. inl is) (λ fault. absurd (quiet (done.written.risen fault))) done.ended
@@ -106,6 +118,7 @@ module _ {K : Type 0} (sink : Ghosts K) (old new : K) (now : Status) (kept : Lis
 found_judges : (c : Command) (it : Told (input_of c)) (bad : Bad) → IsFirstBad c it bad → is_judge c ≡ true
 found_judges command.Check m bad first = absurd first
 found_judges (command.Sim g o) m bad first = absurd first
+found_judges (command.Run o) m bad first = absurd first
 found_judges (command.Gen n) it bad first = absurd first
 found_judges (command.Big n) it bad first = absurd first
 found_judges command.Replay h bad first = refl
@@ -122,6 +135,7 @@ bad_is_not_good h bad first good = some_is_not_none bad (sym first ∙ good)
 found_complete : (c : Command) (it : Told (input_of c)) (bad : Bad) (now : Status) (kept : List Item) → IsFirstBad c it bad → IsComplete c it now kept
 found_complete command.Check m bad now kept first = absurd first
 found_complete (command.Sim g o) m bad now kept first = absurd first
+found_complete (command.Run o) m bad now kept first = absurd first
 found_complete (command.Gen n) it bad now kept first = absurd first
 found_complete (command.Big n) it bad now kept first = absurd first
 found_complete command.Replay h bad now kept first = λ whole. absurd (bad_is_not_good h bad first whole.good)
@@ -148,6 +162,9 @@ stop_may_end command.Check before after stop.OutOfMemory may = refl
 stop_may_end (command.Sim g o) before after (stop.Refused r) may = refl
 stop_may_end (command.Sim g o) before after stop.ReadFault may = refl
 stop_may_end (command.Sim g o) before after stop.OutOfMemory may = refl
+stop_may_end (command.Run o) before after (stop.Refused r) may = refl
+stop_may_end (command.Run o) before after stop.ReadFault may = refl
+stop_may_end (command.Run o) before after stop.OutOfMemory may = refl
 stop_may_end command.Replay before after (stop.Refused r) may = refl
 stop_may_end command.Replay before after stop.ReadFault may = refl
 stop_may_end command.Replay before after stop.OutOfMemory may = refl
@@ -202,6 +219,7 @@ stop_write_fault stop.OutOfMemory fault = cc
 want_complete : (c : Command) (it : Told (input_of c)) (now : Status) (kept : List Item) → now ≡ status.OutOfMemory → IsComplete c it now kept
 want_complete command.Check m now kept want = inr want
 want_complete (command.Sim g o) m now kept want = λ guests. inl (inr want)
+want_complete (command.Run o) m now kept want = λ guests. inl (inr want)
 want_complete (command.Gen n) it now kept want = inr want
 want_complete (command.Big n) it now kept want = inr want
 want_complete command.Replay h now kept want = λ whole. inr want
@@ -231,14 +249,15 @@ told_all nothing told P h = h (tt {0})
 -- how a command ended, whatever its source
 
 module _ {K : Type 0} (c : Command) (sink : Ghosts K) (old new : K) (out : Outcome) where
-  pub did_end : (it : Told (input_of c)) → HasDone c sink it old new out.status out.kept.items → IsEnded c sink old new out
+  pub did_end : (it : Told (input_of c)) → HasDone c sink it old new out.status out.kept.items out.ran → IsEnded c sink old new out
   did_end it works =
-      let told = done_is_told sink old new out.status out.kept.items c it works in
+      let told = done_is_told sink old new out.status out.kept.items out.ran c it works in
       record {
-        ends = done_may_end sink old new out.status out.kept.items c it works;
-        write_fault = done_has_written sink old new out.status out.kept.items c it works;
+        ends = done_may_end sink old new out.status out.kept.items out.ran c it works;
+        write_fault = done_has_written sink old new out.status out.kept.items out.ran c it works;
         silent = λ silent. absurd (true_or_false (is_silent out.status) silent told);
         nothing_kept = λ silent. absurd (true_or_false (is_silent out.status) silent told);
+        nothing_ran = λ silent. absurd (true_or_false (is_silent out.status) silent told);
       }
 
   pub stopped_end : (s : Stop) → may_end c (stop_status s) ≡ true → HasStopped s old new out → IsEnded c sink old new out
@@ -247,6 +266,7 @@ module _ {K : Type 0} (c : Command) (sink : Ghosts K) (old new : K) (out : Outco
     write_fault = λ fault. absurd (stop_write_fault s (sym has.ended ∙ fault));
     silent = λ h. has.sink;
     nothing_kept = λ h. has.history;
+    nothing_ran = λ h. has.no_threads;
   }
 
   pub stopped_silent : (s : Stop) → HasStopped s old new out → is_silent out.status ≡ false → ⊥
@@ -254,7 +274,7 @@ module _ {K : Type 0} (c : Command) (sink : Ghosts K) (old new : K) (out : Outco
 
 module _ {S K : Type 0} (c : Command) (source : Reader S) (sink : Ghosts K) (before after : S) (old new : K) (out : Outcome) where
   abbrev Works : Told (input_of c) → Type 0
-  Works it = HasDone c sink it old new out.status out.kept.items
+  Works it = HasDone c sink it old new out.status out.kept.items out.ran
 
   -- what is accepted of what was read
   abbrev Accepted : Told (input_of c) → Type 0
@@ -269,13 +289,13 @@ module _ {S K : Type 0} (c : Command) (source : Reader S) (sink : Ghosts K) (bef
       → IfTold (input_of c) (source.left before) (λ other. it ≡ other) → source.faults before ≤ source.faults after
       → Promises c source sink before after old new out
   did it read works only count =
-      let told = done_is_told sink old new out.status out.kept.items c it works in
+      let told = done_is_told sink old new out.status out.kept.items out.ran c it works in
       record {
         done = λ not_silent. (it, read, works);
         bad = told_no_bad out.status (λ bad. HasRead (input_of c) source before after (λ other. IsFirstBad c other bad)) told;
         accepted = told_more (input_of c) (source.left before) (λ other. it ≡ other) Accepted (λ other same. inl (subst Works same works)) only;
         complete = told_more (input_of c) (source.left before) (λ other. it ≡ other) Comes
-            (λ other same read_quiet quiet. done_complete sink old new out.status out.kept.items c other (subst Works same works) quiet) only;
+            (λ other same read_quiet quiet. done_complete sink old new out.status out.kept.items out.ran c other (subst Works same works) quiet) only;
         ended = did_end c sink old new out it works;
         refused = told_no_refusal out.status (λ refused. IfSome (source.left before) (λ bytes. IsFault (input_of c) bytes refused)) told;
         read_fault = λ fault. absurd (true_or_false (is_silent out.status) (ap is_silent fault) told);
@@ -286,10 +306,10 @@ module _ {S K : Type 0} (c : Command) (source : Reader S) (sink : Ghosts K) (bef
   -- a command that found what it read bad, which is all that the source can tell
   pub found :
       (it : Told (input_of c)) (bad : Bad) → IsRead (input_of c) source before after it → IsFirstBad c it bad
-      → out.status ≡ status.HistoryBad bad → out.kept.items ≡ [] → new ≡ old
+      → out.status ≡ status.HistoryBad bad → out.kept.items ≡ [] → out.ran ≡ None → new ≡ old
       → IfTold (input_of c) (source.left before) (λ other. it ≡ other) → source.faults before ≤ source.faults after
       → Promises c source sink before after old new out
-  found it bad read first ends kept written only count = record {
+  found it bad read first ends kept none written only count = record {
     done = λ told. absurd (true_or_false (is_silent out.status) (ap is_silent ends) told);
     bad = subst (λ (now : Status). IfSome (bad_of now) (λ bad. HasRead (input_of c) source before after (λ it. IsFirstBad c it bad))) (sym ends)
         (it, read, first);
@@ -301,6 +321,7 @@ module _ {S K : Type 0} (c : Command) (source : Reader S) (sink : Ghosts K) (bef
       write_fault = λ fault. absurd (bad_is_no_write_fault bad (sym ends ∙ fault));
       silent = λ h. written;
       nothing_kept = λ h. kept;
+      nothing_ran = λ h. none;
     };
     refused = subst (λ (now : Status). IfSome (refusal_of now) (λ refused. IfSome (source.left before) (λ bytes. IsFault (input_of c) bytes refused))) (sym ends) tt;
     read_fault = λ fault. absurd (bad_is_no_read_fault bad (sym ends ∙ fault));
@@ -341,11 +362,11 @@ module _ {S K : Type 0} (c : Command) (source : Reader S) (sink : Ghosts K) (bef
   -- a command that ended before it did its work
   pub failed :
       (now : Status) → HasFailed (input_of c) source (IsFirstBad c) before after now → out.status ≡ now → ((s : Stop) → StopsAs (input_of c) before after s)
-      → out.kept.items ≡ [] → new ≡ old → source.faults before ≤ source.faults after → Promises c source sink before after old new out
-  failed now has is may kept unwritten count =
+      → out.kept.items ≡ [] → out.ran ≡ None → new ≡ old → source.faults before ≤ source.faults after → Promises c source sink before after old new out
+  failed now has is may kept none unwritten count =
       ⊎_elim
-      (λ why. stopped why.why why.stopped (may why.why) (record { ended = is ∙ why.ended; history = kept; sink = unwritten }) why.no_refusal count)
-      (λ bad. found bad.it bad.bad bad.read bad.first (is ∙ bad.ended) kept unwritten bad.only count) has
+      (λ why. stopped why.why why.stopped (may why.why) (record { ended = is ∙ why.ended; history = kept; no_threads = none; sink = unwritten }) why.no_refusal count)
+      (λ bad. found bad.it bad.bad bad.read bad.first (is ∙ bad.ended) kept none unwritten bad.only count) has
 
 -- ---- reading nothing
 
@@ -363,13 +384,13 @@ module _ {S K : Type 0} (source : Reader S) (sink : Ghosts K) (x : S) (old new :
 
   -- commands on generated machines
   pub printed_or_not :
-      (n : ℕ) → HasPrinted sink (generated n) old new out.status out.kept.items ⊎ HasStopped stop.OutOfMemory old new out
+      (n : ℕ) → HasPrinted sink (generated n) old new out.status out.kept.items out.ran ⊎ HasStopped stop.OutOfMemory old new out
       → Promises (command.Gen n) source sink x x old new out
   printed_or_not n =
       ⊎_elim (λ done. did (command.Gen n) source sink x x old new out tt refl done refl (omega arith)) (wanting (command.Gen n))
 
   pub summed_or_not :
-      (n : ℕ) → HasSummed n sink (generated n) old new out.status out.kept.items ⊎ HasStopped stop.OutOfMemory old new out
+      (n : ℕ) → HasSummed n sink (generated n) old new out.status out.kept.items out.ran ⊎ HasStopped stop.OutOfMemory old new out
       → Promises (command.Big n) source sink x x old new out
   summed_or_not n =
       ⊎_elim (λ done. did (command.Big n) source sink x x old new out tt refl done refl (omega arith)) (wanting (command.Big n))

@@ -1,6 +1,6 @@
 -- a run that was made and kept, and whose output was written
 use Rattle.std.proofs.Common.{◌≡◌, List, sym, subst}
-use Rattle.std.specs.Prelude.{Result}
+use Rattle.std.specs.Prelude.{Option, None, Result}
 use Rattle.plat_base.specs.Coherent.{FindsFrameWord}
 use Rattle.plat_base.specs.Histories.{AtEachAccess}
 use Rattle.plat_laws.specs.Guests.{IsWithinLimits}
@@ -18,6 +18,7 @@ use Rattle.plat_coarse_laws.proofs.CoherentLaws.{run_finds_words}
 use Rattle.plat_coarse_laws.proofs.CoarseRunLaws.{coarse_run_coherent}
 use Rattle.plat_coarse_laws.proofs.TurnLaws.{run_good, run_not_cut}
 use Rattle.plat_event_laws.proofs.ScheduledLaws.{fine_run-good, fine_run-scheduled}
+use Rattle.plat_table.specs.Closed.{ClosedSeen}
 use Rattle.plat_cmd.specs.Works.{history_of, ends_of, is_limited, output_of, IsRunOf, IsWritten, HasRun}
 use Rattle.plat_cmd.specs.Steps.{status_after}
 use Rattle.plat_cmd.specs.declared.words.Grain.{Grain}
@@ -43,10 +44,10 @@ is_run_of grain.Coarse m kept limits same = record {
 }
 is_run_of grain.Fine m kept limits same = fine_run-scheduled m (policy_answer m.policy) limits
 
-pub has_run : {K : Type 0} (g : Grain) (o : Output) (sink : Ghosts K) (m : Machine) (old new : K) (writing : Result (Unit {0}) WriteFault) (now : Status) (kept : List Item)
-    → IsWithinLimits m → kept ≡ history_of g m → now ≡ status_after (status_of (ends_of g m) (is_limited g)) writing
-    → Adds sink old new writing (output_of o m (history_of g m) (ends_of g m)) → HasRun g o sink m old new now kept
-has_run g o sink m old new writing now kept limits same now_is adds =
+pub has_run : {K : Type 0} (g : Grain) (o : Output) (sink : Ghosts K) (m : Machine) (old new : K) (writing : Result (Unit {0}) WriteFault) (now : Status) (kept : List Item) (ran : Option ClosedSeen)
+    → ran ≡ None → IsWithinLimits m → kept ≡ history_of g m → now ≡ status_after (status_of (ends_of g m) (is_limited g)) writing
+    → Adds sink old new writing (output_of o m (history_of g m) (ends_of g m)) → HasRun g o sink m old new now kept ran
+has_run g o sink m old new writing now kept ran none limits same now_is adds =
     let complete = status_of (ends_of g m) (is_limited g) in
     record {
       history = same;
@@ -56,4 +57,5 @@ has_run g o sink m old new writing now kept limits same now_is adds =
           subst (λ (is : List Item). IsWritten sink old new now (output_of o m is (ends_of g m))) (sym same)
           (written_by sink old new writing (output_of o m (history_of g m) (ends_of g m)) complete now (no_write_fault (ends_of g m) (is_limited g)) now_is adds);
       ended = ended_by writing complete now now_is;
+      no_threads = none;
     }

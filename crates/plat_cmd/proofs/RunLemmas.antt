@@ -1,10 +1,10 @@
 -- the coarse run of the schedule is that of the definition
 use Rattle.std.proofs.Common.{◌≡◌, ℕ, ◌+◌, ◌*◌, ◌≤◌, List, refl, sym, ap, subst, ◌∙◌}
-use Rattle.std.specs.Prelude.{None, Some, Option}
+use Rattle.std.specs.Prelude.{None, Some}
 use Rattle.plat_base.specs.Machine.{Machine}
 use Rattle.plat_base.specs.Coarse.{Coarse}
 use Rattle.plat_base.specs.Turns.{turn}
-use Rattle.plat_base.specs.Schedule.{Chooser, Scheduled, choose, live_processors, with_choice, scheduled, coarse_run}
+use Rattle.plat_base.specs.Schedule.{Scheduled, choose, live_processors, with_choice, scheduled, coarse_run}
 use Rattle.plat_base.specs.Verdicts.{policy_answer}
 use Rattle.plat_base.specs.declared.endings.Ended.{Ended}
 use Rattle.plat_base.specs.declared.items.Item.{Item}

@@ -5,7 +5,7 @@ use lib.Pointwise.{pointwise}
 use Rattle.plat_grammar.specs.Lines.{number_of}
 use Rattle.plat_base.specs.declared.faults.Why.{Why}
 use Rattle.plat_cmd.specs.declared.words.Command.{Command}
-use Rattle.plat_cmd.specs.declared.words.Command.TheVariants.{Check, Sim, Replay, Race, Cost, Gen, Big}
+use Rattle.plat_cmd.specs.declared.words.Command.TheVariants.{Check, Sim, Run, Replay, Race, Cost, Gen, Big}
 use Rattle.plat_cmd.specs.declared.words.Grain.TheVariants.{Coarse, Fine}
 use Rattle.plat_cmd.specs.declared.words.Output.TheVariants.{Report, Trace}
 use Rattle.plat_cmd.specs.declared.words.WordsFault.{WordsFault}
@@ -35,6 +35,8 @@ read_of words =
     else if same_words words (codes "sim" ∷ codes "coarse" ∷ codes "trace" ∷ []) then Ok (Sim Coarse Trace)
     else if same_words words (codes "sim" ∷ codes "fine" ∷ []) then Ok (Sim Fine Report)
     else if same_words words (codes "sim" ∷ codes "fine" ∷ codes "trace" ∷ []) then Ok (Sim Fine Trace)
+    else if same_words words (codes "run" ∷ []) then Ok (Run Report)
+    else if same_words words (codes "run" ∷ codes "trace" ∷ []) then Ok (Run Trace)
     else if same_words words (codes "replay" ∷ []) then Ok Replay
     else if same_words words (codes "race" ∷ []) then Ok Race
     else if same_words words (codes "cost" ∷ []) then Ok Cost

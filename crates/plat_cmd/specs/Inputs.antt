@@ -22,6 +22,7 @@ pub data Input : Type 0 where
 abbrev pub input_of : Command → Input
 input_of command.Check = machine_text
 input_of (command.Sim grain output) = machine_text
+input_of (command.Run output) = machine_text
 input_of command.Replay = history_text
 input_of command.Race = history_text
 input_of command.Cost = history_text

@@ -1,5 +1,5 @@
 -- what a call of a command promises
-use Rattle.std.specs.Prelude.{◌≡◌, ◌⊎◌, ℕ, ◌≤◌, true, false, [], IfSome, IsSomeAnd, IsTrue}
+use Rattle.std.specs.Prelude.{◌≡◌, ◌⊎◌, ℕ, ◌≤◌, true, false, [], None, IfSome, IsSomeAnd, IsTrue}
 use Rattle.plat_base.specs.Statuses.{is_silent, refusal_of}
 use Rattle.plat_base.specs.declared.statuses.Status.{Status}
 use Rattle.plat_base.specs.declared.statuses.Status.TheVariants as status
@@ -25,23 +25,24 @@ pub record IsEnded {K : Type 0} (c : Command) (sink : Ghosts K) (old new : K) (o
   pub ends : IsTrue (may_end c out.status)
   -- WriteFault comes only where the sink's count of faults has risen
   pub write_fault : out.status ≡ status.WriteFault → HasRisen (sink.faults old) (sink.faults new)
-  -- with the statuses that write nothing the sink is as it was, and no history is kept
+  -- with the statuses that write nothing the sink is as it was, no history is kept, and no threads left anything
   pub silent : is_silent out.status ≡ true → new ≡ old
   pub nothing_kept : is_silent out.status ≡ true → out.kept.items ≡ []
+  pub nothing_ran : is_silent out.status ≡ true → out.ran ≡ None
 
 -- what a call of command c promises
 pub record Promises {S K : Type 0} (c : Command) (source : Reader S) (sink : Ghosts K) (before after : S) (old new : K) (out : Outcome) : Type 0 where
   -- with a status that lets it write, the command read its input, and did its work with what it read
   pub done :
       is_silent out.status ≡ false
-      → HasRead (input_of c) source before after (λ it. HasDone c sink it old new out.status out.kept.items)
+      → HasRead (input_of c) source before after (λ it. HasDone c sink it old new out.status out.kept.items out.ran)
   -- a history that is bad was read, and this is its first bad item
   pub bad : IfSome (bad_of out.status) (λ bad. HasRead (input_of c) source before after (λ it. IsFirstBad c it bad))
   -- with whatever the source tells it did its work or found what is bad, or the source failed or memory ran out: no text is
   -- refused
   pub accepted :
       IfTold (input_of c) (source.left before)
-      (λ it. HasDone c sink it old new out.status out.kept.items ⊎ IsSomeAnd (bad_of out.status) (IsFirstBad c it)
+      (λ it. HasDone c sink it old new out.status out.kept.items out.ran ⊎ IsSomeAnd (bad_of out.status) (IsFirstBad c it)
       ⊎ IsNoRefusal out.status)
   -- where no count of faults rises, it comes to its end with that
   pub complete :
@@ -59,9 +60,10 @@ pub record Promises {S K : Type 0} (c : Command) (source : Reader S) (sink : Gho
   -- the source's count of faults never falls
   pub count : source.faults before ≤ source.faults after
 
--- words that name no command: nothing was read, written or kept
+-- words that name no command: nothing was read, written, kept or run
 pub record IsBadWords {S K : Type 0} (before after : S) (old new : K) (out : Outcome) : Type 0 where
   pub ended : out.status ≡ status.BadWords
   pub source : after ≡ before
   pub sink : new ≡ old
   pub history : out.kept.items ≡ []
+  pub no_threads : out.ran ≡ None

@@ -1,5 +1,5 @@
 -- what the parts of a command do
-use Rattle.std.specs.Prelude.{◌≡◌, ℕ, ◌≤◌, List, [], Option, Some, IfSome, Result, Ok, Err}
+use Rattle.std.specs.Prelude.{◌≡◌, ℕ, List, [], Option, None, IfSome, Result, Ok, Err}
 use Rattle.plat_base.specs.Machine.{Machine}
 use Rattle.plat_base.specs.Schedule.{Scheduled, scheduled, scheduled_turn}
 use Rattle.plat_base.specs.Verdicts.{policy_answer}
@@ -52,6 +52,7 @@ stop_status stop.OutOfMemory = status.OutOfMemory
 pub record HasStopped {K : Type 0} (stopped : Stop) (old new : K) (out : Outcome) : Type 0 where
   pub ended : out.status ≡ stop_status stopped
   pub history : out.kept.items ≡ []
+  pub no_threads : out.ran ≡ None
   pub sink : new ≡ old
 
 -- ---- a coarse run

@@ -22,6 +22,8 @@ use Rattle.plat_base.specs.declared.statuses.Status.TheVariants as status
 use Rattle.plat_events.specs.Runs.{most_events, fine_run}
 use Rattle.plat_events.specs.Runs.{ends_of as fine_ends}
 use Rattle.plat_event_laws.specs.Scheduled.{IsRunWithin}
+use Rattle.plat_events.specs.Merges.{merged}
+use Rattle.plat_table.specs.Closed.{ClosedSeen, IsRun}
 use Rattle.plat_io.specs.Adds.{is_part}
 use Rattle.plat_io.specs.Streams.{HasRisen, added}
 use Rattle.plat_io.specs.declared.sinks.Sink.{Ghosts}
@@ -57,12 +59,14 @@ IsOrWriteFault complete now = (now ≡ complete) ⊎ (now ≡ status.WriteFault)
 -- ---- check
 
 -- the canonical text of m was written; it is a text of m, and is read as m again
-pub record HasPrinted {K : Type 0} (sink : Ghosts K) (m : Machine) (old new : K) (now : Status) (kept : List Item) : Type 0 where
+pub record HasPrinted {K : Type 0} (sink : Ghosts K) (m : Machine)
+    (old new : K) (now : Status) (kept : List Item) (ran : Option ClosedSeen) : Type 0 where
   pub written : IsWritten sink old new now (canon_text m)
   pub ended : IsOrWriteFault status.Done now
   pub text : IsTextOf (canon_text m) m
   pub read_again : text_at (canon_text m) ≡ Ok m
   pub history : kept ≡ []
+  pub no_threads : ran ≡ None
 
 -- ---- sim
 
@@ -99,7 +103,8 @@ IsRunOf grain.Coarse m kept = IsWholeRun m kept
 IsRunOf grain.Fine m kept = IsRunWithin m (policy_answer m.policy) most_events (fine_run m (policy_answer m.policy))
 
 -- the run of m of this grain was made and kept, and its output was written
-pub record HasRun {K : Type 0} (g : Grain) (o : Output) (sink : Ghosts K) (m : Machine) (old new : K) (now : Status) (kept : List Item) : Type 0 where
+pub record HasRun {K : Type 0} (g : Grain) (o : Output) (sink : Ghosts K) (m : Machine)
+    (old new : K) (now : Status) (kept : List Item) (ran : Option ClosedSeen) : Type 0 where
   -- the history that is kept is that of the run
   pub history : kept ≡ history_of g m
   -- it breaks no rule and is one history of flat memory; nobody is spent, or lacks a frame, without need
@@ -109,6 +114,31 @@ pub record HasRun {K : Type 0} (g : Grain) (o : Output) (sink : Ghosts K) (m : M
   pub written : IsWritten sink old new now (output_of o m kept (ends_of g m))
   -- EventLimit where the most events were made and some end is cut, else the status of the ends
   pub ended : IsOrWriteFault (status_of (ends_of g m) (is_limited g)) now
+  pub no_threads : ran ≡ None
+
+-- ---- run
+
+-- a run of m on threads, what it left, and the history that was kept of it
+pub record IsThreadRun (m : Machine) (left : ClosedSeen) (kept : List Item) : Type 0 where
+  pub machine : left.machine ≡ m
+  -- single operations of live actors lead to what was left, and after them every actor has ended
+  pub run : IsRun left
+  -- the history that is kept is the merge of what each actor did
+  pub history : kept ≡ merged left.journals.lists
+  -- it breaks no rule and is one history of flat memory; nobody is spent, or lacks a frame, without need
+  pub coherent : IsCoherentRun m (policy_answer m.policy) kept left.ends
+  -- every processor ended
+  pub over : IsOver m left.ends
+
+-- a run of m on threads was made, its history and what it left were kept, and its output was written
+pub record HasThreaded {K : Type 0} (o : Output) (sink : Ghosts K) (m : Machine)
+    (old new : K) (now : Status) (kept : List Item) (ran : Option ClosedSeen) : Type 0 where
+  pub left : ClosedSeen
+  pub threads : ran ≡ Some left
+  pub run : IsThreadRun m left kept
+  -- printed values, final memory and counts are this history's
+  pub written : IsWritten sink old new now (output_of o m kept left.ends)
+  pub ended : IsOrWriteFault (status_of left.ends false) now
 
 -- ---- replay
 
@@ -117,13 +147,15 @@ abbrev pub first_bad_of : History → Option Bad
 first_bad_of h = first_bad h.machine (policy_answer h.machine.policy) h.items h.ends
 
 -- the history h was kept, and its report was written
-pub record HasReplayed {K : Type 0} (sink : Ghosts K) (h : History) (old new : K) (now : Status) (kept : List Item) : Type 0 where
+pub record HasReplayed {K : Type 0} (sink : Ghosts K) (h : History)
+    (old new : K) (now : Status) (kept : List Item) (ran : Option ClosedSeen) : Type 0 where
   pub history : kept ≡ h.items
   -- it breaks no rule and is one history of flat memory; nobody is spent, or lacks a frame, without need
   pub coherent : IsCoherentRun h.machine (policy_answer h.machine.policy) kept h.ends
   -- printed values, final memory and counts are this history's
   pub written : IsWritten sink old new now (report h.machine kept h.ends)
   pub ended : IsOrWriteFault (status_of h.ends false) now
+  pub no_threads : ran ≡ None
 
 -- no item and no end breaks a rule, and no processor was spent or lacked a frame
 pub record IsDoneHistory (h : History) : Type 0 where
@@ -134,7 +166,8 @@ pub record IsDoneHistory (h : History) : Type 0 where
 -- ---- race
 
 -- the first race of the history h was written, or that it has none
-pub record HasRaced {K : Type 0} (sink : Ghosts K) (h : History) (old new : K) (now : Status) (kept : List Item) : Type 0 where
+pub record HasRaced {K : Type 0} (sink : Ghosts K) (h : History)
+    (old new : K) (now : Status) (kept : List Item) (ran : Option ClosedSeen) : Type 0 where
   -- it breaks no rule and is one history of flat memory; nobody is spent, or lacks a frame, without need
   pub coherent : IsCoherentRun h.machine (policy_answer h.machine.policy) h.items h.ends
   -- the race is the first one of this history
@@ -144,22 +177,26 @@ pub record HasRaced {K : Type 0} (sink : Ghosts K) (h : History) (old new : K) (
       first_race h.items ≡ None → (places : List ℕ) → KeepsOrder h.items places → IsLegalMemory h.machine (items_at h.items places)
   pub ended : IsOrWriteFault status.Done now
   pub history : kept ≡ []
+  pub no_threads : ran ≡ None
 
 -- ---- cost
 
 -- the costs of the history h were written, page by page, and their sums
-pub record HasCosted {K : Type 0} (sink : Ghosts K) (h : History) (old new : K) (now : Status) (kept : List Item) : Type 0 where
+pub record HasCosted {K : Type 0} (sink : Ghosts K) (h : History)
+    (old new : K) (now : Status) (kept : List Item) (ran : Option ClosedSeen) : Type 0 where
   -- it breaks no rule and is one history of flat memory; nobody is spent, or lacks a frame, without need
   pub coherent : IsCoherentRun h.machine (policy_answer h.machine.policy) h.items h.ends
   -- each page's plan is the first of those that cost least
   pub written : IsWritten sink old new now (cost_text h.machine h.items)
   pub ended : IsOrWriteFault status.Done now
   pub history : kept ≡ []
+  pub no_threads : ran ≡ None
 
 -- ---- big
 
 -- the coarse run of the n-th generated machine was made and kept, and its summary was written
-pub record HasSummed {K : Type 0} (n : ℕ) (sink : Ghosts K) (m : Machine) (old new : K) (now : Status) (kept : List Item) : Type 0 where
+pub record HasSummed {K : Type 0} (n : ℕ) (sink : Ghosts K) (m : Machine)
+    (old new : K) (now : Status) (kept : List Item) (ran : Option ClosedSeen) : Type 0 where
   -- the history that is kept is that of the coarse run
   pub history : kept ≡ history_of grain.Coarse m
   -- it breaks no rule and is one history of flat memory; nobody lacks a frame
@@ -170,18 +207,20 @@ pub record HasSummed {K : Type 0} (n : ℕ) (sink : Ghosts K) (m : Machine) (old
   pub halted : ends_of grain.Coarse m ≡ replicate 8 (halted_in 40008)
   pub written : IsWritten sink old new now (summary n m kept (ends_of grain.Coarse m))
   pub ended : IsOrWriteFault status.Done now
+  pub no_threads : ran ≡ None
 
 -- ---- each command
 
 -- what a command does with what it read
-abbrev pub HasDone : {K : Type 0} (c : Command) → Ghosts K → Told (input_of c) → K → K → Status → List Item → Type 0
-HasDone command.Check sink m old new now kept = HasPrinted sink m old new now kept
-HasDone (command.Sim g o) sink m old new now kept = HasRun g o sink m old new now kept
-HasDone (command.Gen n) sink it old new now kept = HasPrinted sink (generated n) old new now kept
-HasDone (command.Big n) sink it old new now kept = HasSummed n sink (generated n) old new now kept
-HasDone command.Replay sink h old new now kept = HasReplayed sink h old new now kept
-HasDone command.Race sink h old new now kept = HasRaced sink h old new now kept
-HasDone command.Cost sink h old new now kept = HasCosted sink h old new now kept
+abbrev pub HasDone : {K : Type 0} (c : Command) → Ghosts K → Told (input_of c) → K → K → Status → List Item → Option ClosedSeen → Type 0
+HasDone command.Check sink m old new now kept ran = HasPrinted sink m old new now kept ran
+HasDone (command.Sim g o) sink m old new now kept ran = HasRun g o sink m old new now kept ran
+HasDone (command.Run o) sink m old new now kept ran = HasThreaded o sink m old new now kept ran
+HasDone (command.Gen n) sink it old new now kept ran = HasPrinted sink (generated n) old new now kept ran
+HasDone (command.Big n) sink it old new now kept ran = HasSummed n sink (generated n) old new now kept ran
+HasDone command.Replay sink h old new now kept ran = HasReplayed sink h old new now kept ran
+HasDone command.Race sink h old new now kept ran = HasRaced sink h old new now kept ran
+HasDone command.Cost sink h old new now kept ran = HasCosted sink h old new now kept ran
 
 -- what is bad of a history, where the status says it
 abbrev pub bad_of : Status → Option Bad
@@ -200,6 +239,7 @@ bad_of status.BadWords = None
 abbrev pub IsFirstBad : (c : Command) → Told (input_of c) → Bad → Type 0
 IsFirstBad command.Check m bad = ⊥
 IsFirstBad (command.Sim g o) m bad = ⊥
+IsFirstBad (command.Run o) m bad = ⊥
 IsFirstBad (command.Gen n) it bad = ⊥
 IsFirstBad (command.Big n) it bad = ⊥
 IsFirstBad command.Replay h bad = first_bad_of h ≡ Some bad
@@ -225,6 +265,7 @@ ReachesLimit grain.Fine m now = (ends_as end.Cut (ends_of grain.Fine m) ≡ true
 abbrev pub IsComplete : (c : Command) → Told (input_of c) → Status → List Item → Type 0
 IsComplete command.Check m now kept = IsDoneWithMemory now
 IsComplete (command.Sim g o) m now kept = GuestsEnd m kept → IsDoneWithMemory now ⊎ LacksFrames m now ⊎ ReachesLimit g m now
+IsComplete (command.Run o) m now kept = GuestsEnd m kept → IsDoneWithMemory now ⊎ LacksFrames m now
 IsComplete (command.Gen n) it now kept = IsDoneWithMemory now
 IsComplete (command.Big n) it now kept = IsDoneWithMemory now
 IsComplete command.Replay h now kept = IsDoneHistory h → IsDoneWithMemory now
@@ -235,6 +276,7 @@ IsComplete command.Cost h now kept = first_bad_of h ≡ None → IsDoneWithMemor
 abbrev pub is_run : Command → Bool
 is_run command.Check = false
 is_run (command.Sim g o) = true
+is_run (command.Run o) = true
 is_run (command.Gen n) = false
 is_run (command.Big n) = false
 is_run command.Replay = true
@@ -244,6 +286,7 @@ is_run command.Cost = false
 abbrev pub is_judge : Command → Bool
 is_judge command.Check = false
 is_judge (command.Sim g o) = false
+is_judge (command.Run o) = false
 is_judge (command.Gen n) = false
 is_judge (command.Big n) = false
 is_judge command.Replay = true
@@ -254,6 +297,7 @@ is_judge command.Cost = true
 abbrev pub may_reach_limit : Command → Bool
 may_reach_limit command.Check = false
 may_reach_limit (command.Sim g o) = is_limited g
+may_reach_limit (command.Run o) = false
 may_reach_limit (command.Gen n) = false
 may_reach_limit (command.Big n) = false
 may_reach_limit command.Replay = false

@@ -3,6 +3,7 @@ use crate::platinum;
 use crate::replay_tests::HISTORY;
 use plat_base::{List, Status};
 use plat_io::{MemorySink, MemorySource};
+use plat_table::FreeGate;
 use std::test::Fail;
 
 /// The fetch-and-adds to word 1 order what stands around them.
@@ -58,7 +59,14 @@ total actual 4 least 1
         let mut source = MemorySource::new(rt.alloc(), text, List::new(rt.alloc()))?;
         let mut sink = MemorySink::new(rt.alloc(), 100, List::new(rt.alloc()))?;
         let words: [&str; 1] = [word];
-        let outcome = platinum(rt.alloc(), words.as_slice(), &mut source, &mut sink);
+        let outcome = platinum(
+            &rt,
+            rt.alloc(),
+            words.as_slice(),
+            &mut source,
+            &mut sink,
+            &FreeGate,
+        );
         assert_eq!(rt; outcome.status, Status::Done);
         assert_eq!(rt; outcome.kept.len(), 0);
         assert_eq!(rt; sink.bytes(), written);

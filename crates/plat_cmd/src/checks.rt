@@ -10,7 +10,8 @@ use std::alloc::Global;
 
 /// Writes the canonical text of a machine.
 pub fn print<K: Sink>(alloc: Global, cfg: &Config, sink: &mut K) -> Outcome
-    ensures { HasPrinted K.Sink (machine cfg.now) sink.old sink.new result.status result.kept.items }
+    ensures { HasPrinted K.Sink (machine cfg.now) sink.old sink.new
+        result.status result.kept.items result.ran }
 {
     let written = print_machine(cfg, sink);
     without_run(alloc, status_after(Status::Done, written))

@@ -15,6 +15,7 @@ use crate::races::raced;
 use crate::readings::read_machine;
 use crate::replays::reported;
 use crate::simulations::simulate;
+use crate::thread_runs::{run_reported, run_traced};
 use crate::traces::trace;
 use crate::words::{Command, Grain, Output, WordsFault, read_words};
 use plat_base::{Config, Status};
@@ -22,7 +23,10 @@ use plat_cost::Placer;
 use plat_io::{Sink, Source};
 use plat_race::Racer;
 use plat_report::Tally;
+use plat_table::Gate;
 use std::alloc::Global;
+use std::sync::Wait;
+use std::thread::Threads;
 
 /// `check`: reads a machine text, and writes its canonical text.
 pub fn check<S: Source, K: Sink>(alloc: Global, source: &mut S, sink: &mut K) -> Outcome
@@ -52,6 +56,31 @@ pub fn sim<S: Source, K: Sink>(
         Ok(cfg) => match output {
             Output::Report => simulate(alloc, grain, cfg, sink),
             Output::Trace => trace(alloc, grain, cfg, sink),
+        },
+        Err(stop) => without_run(alloc, stop_status(stop)),
+    }
+}
+
+/// `run`: reads a machine text, runs each of its processors and the daemon on a thread of its own, merges what they did into one
+/// history, and writes its report or its history text. All memory is taken before the first thread. The status is that of the
+/// ends: NoFrames where some processor found no frame, else Spent where some processor spent its budget, else Done. Two runs of
+/// one machine may differ; each is a run of single operations, and its history breaks no rule.
+///
+/// That it returns is promised only where each live thread gets its turn again and again.
+pub fn run<R: Threads + Wait + Sync, S: Source, K: Sink, G: Gate + Sync>(
+    rt: &R,
+    alloc: Global,
+    output: Output,
+    source: &mut S,
+    sink: &mut K,
+    gate: &G,
+) -> Outcome
+    ensures { Promises (commands.Run output) S.Source K.Sink source.old source.new sink.old sink.new result }
+{
+    match read_machine(alloc, source) {
+        Ok(cfg) => match output {
+            Output::Report => run_reported(rt, alloc, cfg, sink, gate),
+            Output::Trace => run_traced(rt, alloc, cfg, sink, gate),
         },
         Err(stop) => without_run(alloc, stop_status(stop)),
     }
@@ -91,12 +120,15 @@ pub fn cost<S: Source, K: Sink>(alloc: Global, source: &mut S, sink: &mut K) -> 
     }
 }
 
-/// The program: the command that these words name, the program's name not among them.
-pub fn platinum<S: Source, K: Sink>(
+/// The program: the command that these words name, the program's name not among them. Only `run` makes threads, and passes the
+/// gate.
+pub fn platinum<R: Threads + Wait + Sync, S: Source, K: Sink, G: Gate + Sync>(
+    rt: &R,
     alloc: Global,
     words: &[&str],
     source: &mut S,
     sink: &mut K,
+    gate: &G,
 ) -> Outcome
     // What the command that the words name promises of its own call.
     ensures named { IfOk (read_of (texts_of words.now))
@@ -110,6 +142,7 @@ pub fn platinum<S: Source, K: Sink>(
     match read_words(alloc, words) {
         Ok(Command::Check) => check(alloc, source, sink),
         Ok(Command::Sim { grain, output }) => sim(alloc, grain, output, source, sink),
+        Ok(Command::Run(output)) => run(rt, alloc, output, source, sink, gate),
         Ok(Command::Replay) => replay(alloc, source, sink),
         Ok(Command::Race) => race(alloc, source, sink),
         Ok(Command::Cost) => cost(alloc, source, sink),

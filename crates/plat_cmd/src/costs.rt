@@ -16,7 +16,8 @@ use std::alloc::Global;
 pub fn costed<K: Sink>(alloc: Global, judged: Judged<Placer>, sink: &mut K) -> Outcome
     requires placer { IsFor (machine judged.history.cfg) judged.memory }
     requires good { first_bad_of (seen judged.history) ≡ None }
-    ensures { HasCosted K.Sink (seen judged.history) sink.old sink.new result.status result.kept.items }
+    ensures { HasCosted K.Sink (seen judged.history) sink.old sink.new
+        result.status result.kept.items result.ran }
 {
     let Judged { history, memory } = judged;
     let mut placer = memory;

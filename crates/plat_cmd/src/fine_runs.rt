@@ -3,7 +3,7 @@ ghost use Rattle.std.specs.Prelude.{◌≡◌, false, None, IfOk, length};
 ghost use Rattle.plat_base.specs.Schedule.{choose};
 ghost use Rattle.plat_base.specs.Seen.{machine};
 ghost use Rattle.plat_events.specs.Privates.{actor_count};
-ghost use Rattle.plat_events.specs.Runs.{fine_schedule_start, live_actors};
+ghost use Rattle.plat_events.specs.Runs.{fine_schedule_start, live_actors, most_events};
 ghost use Rattle.plat_sched.specs.Actors.{actors_of};
 ghost use Rattle.plat_cmd.specs.Steps.{standing_fine, own_event, after_events};
 ghost use Rattle.plat_cmd.specs.Works.{history_of, ends_of};
@@ -15,7 +15,11 @@ use plat_sched::Schedule;
 use std::alloc::Global;
 
 /// The most events of a run.
-const MOST_EVENTS: u32 = 4_194_304;
+fn most_events() -> u32
+    ensures { result ≡ most_events }
+{
+    4_194_304
+}
 
 /// The live actors, the daemon among them, as the bits of a word.
 fn live_word(fine: &Fine) -> u32
@@ -73,8 +77,9 @@ pub fn run_fine(alloc: Global, cfg: Config) -> Result<Finished, OutOfMemory>
     ensures items { IfOk result (λ finished. finished.items.items ≡ history_of grains.Fine (machine cfg)) }
     ensures ends { IfOk result (λ finished. finished.ends.items ≡ ends_of grains.Fine (machine cfg)) }
 {
+    let events = most_events();
     let mut schedule = Schedule::new(alloc, &cfg.schedule)?;
     let mut fine = Fine::new(alloc, cfg)?;
-    make_events(&mut fine, &mut schedule, MOST_EVENTS);
+    make_events(&mut fine, &mut schedule, events);
     Ok(fine.finish())
 }

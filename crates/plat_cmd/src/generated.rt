@@ -28,7 +28,7 @@ fn summed<K: Sink>(made: Made, n: u32, sink: &mut K) -> Outcome
     requires ends { made.finished.ends.items ≡ ends_of grains.Coarse (machine made.finished.cfg) }
     requires tally { IsFlatOf (machine made.finished.cfg) [] made.tally }
     ensures { let m = machine made.finished.cfg
-        in HasSummed n K.Sink m sink.old sink.new result.status result.kept.items }
+        in HasSummed n K.Sink m sink.old sink.new result.status result.kept.items result.ran }
 {
     let Made { finished, tally } = made;
     let written = summary(
@@ -42,12 +42,13 @@ fn summed<K: Sink>(made: Made, n: u32, sink: &mut K) -> Outcome
     Outcome {
         status: status_after(Status::Done, written),
         kept: finished.items,
+        ran: None,
     }
 }
 
 /// Makes the `n`-th machine and writes its canonical text.
 pub fn print_nth<K: Sink>(alloc: Global, n: u32, sink: &mut K) -> Outcome
-    ensures { HasPrinted K.Sink (generated n) sink.old sink.new result.status result.kept.items
+    ensures { HasPrinted K.Sink (generated n) sink.old sink.new result.status result.kept.items result.ran
         ⊎ HasStopped stops.OutOfMemory sink.old sink.new result }
 {
     match generate(alloc, n) {
@@ -58,7 +59,7 @@ pub fn print_nth<K: Sink>(alloc: Global, n: u32, sink: &mut K) -> Outcome
 
 /// Makes the coarse run of the `n`-th machine and writes its summary.
 pub fn sum_nth<K: Sink>(alloc: Global, n: u32, sink: &mut K) -> Outcome
-    ensures { HasSummed n K.Sink (generated n) sink.old sink.new result.status result.kept.items
+    ensures { HasSummed n K.Sink (generated n) sink.old sink.new result.status result.kept.items result.ran
         ⊎ HasStopped stops.OutOfMemory sink.old sink.new result }
 {
     let cfg = match generate(alloc, n) {
@@ -75,7 +76,7 @@ pub fn sum_nth<K: Sink>(alloc: Global, n: u32, sink: &mut K) -> Outcome
 pub fn print_generated<K: Sink>(alloc: Global, n: u32, sink: &mut K) -> Outcome
     // With a status that lets it write, it wrote the text, or a part of it.
     ensures done { is_silent result.status ≡ false
-        → HasPrinted K.Sink (generated n) sink.old sink.new result.status result.kept.items }
+        → HasPrinted K.Sink (generated n) sink.old sink.new result.status result.kept.items result.ran }
     // Where no write fails it is done, but for want of memory.
     ensures complete { IsQuiet (K.faults sink.old) (K.faults sink.new) → IsDoneWithMemory result.status }
     ensures ended { IsEnded (commands.Gen n) K.Sink sink.old sink.new result }
@@ -88,7 +89,7 @@ pub fn print_generated<K: Sink>(alloc: Global, n: u32, sink: &mut K) -> Outcome
 pub fn big<K: Sink>(alloc: Global, n: u32, sink: &mut K) -> Outcome
     // With a status that lets it write, it made and kept the run, and wrote its summary, or a part of it.
     ensures done { is_silent result.status ≡ false
-        → HasSummed n K.Sink (generated n) sink.old sink.new result.status result.kept.items }
+        → HasSummed n K.Sink (generated n) sink.old sink.new result.status result.kept.items result.ran }
     // Where no write fails it is done, but for want of memory.
     ensures complete { IsQuiet (K.faults sink.old) (K.faults sink.new) → IsDoneWithMemory result.status }
     ensures ended { IsEnded (commands.Big n) K.Sink sink.old sink.new result }

@@ -23,10 +23,13 @@ mod runs;
 mod simulations;
 #[cfg(test)]
 mod tests;
+mod thread_runs;
+#[cfg(test)]
+mod thread_tests;
 mod traces;
 mod words;
 
-pub use commands::{check, cost, platinum, race, replay, sim};
+pub use commands::{check, cost, platinum, race, replay, run, sim};
 pub use generated::{big, print_generated};
 pub use outcomes::{Outcome, Stop};
 pub use words::{Command, Grain, Output, WordsFault, read_words};

@@ -1,11 +1,12 @@
 //! How commands end.
-ghost use Rattle.std.specs.Prelude.{◌≡◌, []};
+ghost use Rattle.std.specs.Prelude.{◌≡◌, [], None};
 ghost use Rattle.plat_base.specs.Statuses.{status_of as status_of_ends};
 ghost use Rattle.plat_base.specs.Statuses.{ends_as};
 ghost use Rattle.plat_cmd.specs.Steps.{stop_status, status_after};
 
 use plat_base::{End, Ended, Item, List, Refused, Status};
 use plat_io::WriteFault;
+use plat_table::Closed;
 use std::alloc::Global;
 
 /// Why no machine was read.
@@ -18,21 +19,25 @@ pub enum Stop {
     OutOfMemory,
 }
 
-/// How a command ended, and the history that it kept. A command that made no run kept none.
+/// How a command ended, the history that it kept, and what its threads left. A command that made no run kept none, and only a run
+/// on threads leaves something.
 #[derive(Debug, Drop)]
 pub struct Outcome {
     pub status: Status,
     pub kept: List<Item>,
+    pub ran: Option<Closed>,
 }
 
 /// The outcome of a command that made no run.
 pub fn without_run(alloc: Global, status: Status) -> Outcome
     ensures status { result.status ≡ status }
     ensures kept { result.kept.items ≡ [] }
+    ensures ran { result.ran ≡ None }
 {
     Outcome {
         status,
         kept: List::new(alloc),
+        ran: None,
     }
 }
 

@@ -48,7 +48,8 @@ pub fn raced<K: Sink>(alloc: Global, judged: Judged<Racer>, sink: &mut K) -> Out
     requires racer { IsFor (machine judged.history.cfg) judged.memory }
     requires good { first_bad_of (seen judged.history) ≡ None }
     requires range { IsInRange (seen judged.history) }
-    ensures { HasRaced K.Sink (seen judged.history) sink.old sink.new result.status result.kept.items }
+    ensures { HasRaced K.Sink (seen judged.history) sink.old sink.new
+        result.status result.kept.items result.ran }
 {
     let Judged { history, memory } = judged;
     let race = memory.first(&history.cfg, history.items.as_slice());

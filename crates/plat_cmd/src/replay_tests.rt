@@ -2,6 +2,7 @@
 use crate::{Grain, Outcome, Output, platinum, replay, sim};
 use plat_base::{Bad, List, OutOfMemory, Refused, Rule, Status, Why};
 use plat_io::{MemorySink, MemorySource};
+use plat_table::FreeGate;
 use plat_text::lines;
 use std::alloc::{AllocError, Global};
 use std::test::Fail;
@@ -287,7 +288,14 @@ fn a_read_or_a_write_that_fails_in_mid_stream(rt: HostRuntime) -> Result<(), Fai
     for (read, write, status, bytes) in calls {
         let mut source = MemorySource::new(rt.alloc(), HISTORY, failing(rt.alloc(), read)?)?;
         let mut sink = MemorySink::new(rt.alloc(), 1000, failing(rt.alloc(), write)?)?;
-        let outcome = platinum(rt.alloc(), words.as_slice(), &mut source, &mut sink);
+        let outcome = platinum(
+            &rt,
+            rt.alloc(),
+            words.as_slice(),
+            &mut source,
+            &mut sink,
+            &FreeGate,
+        );
         assert_eq!(rt; outcome.status, status);
         assert_eq!(rt; sink.bytes(), bytes);
     }

@@ -15,7 +15,8 @@ use plat_report::{Tally, report};
 pub fn reported<K: Sink>(judged: Judged<Tally>, sink: &mut K) -> Outcome
     requires tally { IsFlatOf (machine judged.history.cfg) [] judged.memory }
     requires good { first_bad_of (seen judged.history) ≡ None }
-    ensures { HasReplayed K.Sink (seen judged.history) sink.old sink.new result.status result.kept.items }
+    ensures { HasReplayed K.Sink (seen judged.history) sink.old sink.new
+        result.status result.kept.items result.ran }
 {
     let Judged { history, memory } = judged;
     let History { cfg, items, ends } = history;
@@ -24,5 +25,6 @@ pub fn reported<K: Sink>(judged: Judged<Tally>, sink: &mut K) -> Outcome
     Outcome {
         status: status_after(complete, written),
         kept: items,
+        ran: None,
     }
 }

@@ -42,7 +42,7 @@ fn reported<K: Sink>(grain: Grain, made: Made, sink: &mut K) -> Outcome
     requires ends { made.finished.ends.items ≡ ends_of grain (machine made.finished.cfg) }
     requires tally { IsFlatOf (machine made.finished.cfg) [] made.tally }
     ensures { let m = machine made.finished.cfg
-        in HasRun grain outputs.Report K.Sink m sink.old sink.new result.status result.kept.items }
+        in HasRun grain outputs.Report K.Sink m sink.old sink.new result.status result.kept.items result.ran }
 {
     let Made { finished, tally } = made;
     let written = report(
@@ -56,12 +56,14 @@ fn reported<K: Sink>(grain: Grain, made: Made, sink: &mut K) -> Outcome
     Outcome {
         status: status_after(complete, written),
         kept: finished.items,
+        ran: None,
     }
 }
 
 /// Makes the run of a machine and writes its report.
 pub fn simulate<K: Sink>(alloc: Global, grain: Grain, cfg: Config, sink: &mut K) -> Outcome
-    ensures { HasRun grain outputs.Report K.Sink (machine cfg) sink.old sink.new result.status result.kept.items
+    ensures { HasRun grain outputs.Report K.Sink (machine cfg) sink.old sink.new
+        result.status result.kept.items result.ran
         ⊎ HasStopped stops.OutOfMemory sink.old sink.new result }
 {
     match make(alloc, grain, cfg) {

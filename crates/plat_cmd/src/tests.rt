@@ -4,10 +4,11 @@ use crate::{
 };
 use plat_base::{List, OutOfMemory, Refused, Status, Why};
 use plat_io::{MemorySink, MemorySource};
+use plat_table::FreeGate;
 use std::alloc::Global;
 use std::test::Fail;
 
-const SMALLEST: &[u8] = b"platinum 1
+pub const SMALLEST: &[u8] = b"platinum 1
 nodes 1
 frames 1
 words 4
@@ -25,7 +26,7 @@ halt
 end
 ";
 
-const REPORT: &[u8] = b"platinum report 1
+pub const REPORT: &[u8] = b"platinum report 1
 processor 0 halted 5
 print 0 5
 word 0 0 5
@@ -122,7 +123,14 @@ fn sim_reports_the_smallest_run(rt: HostRuntime) -> Result<(), Fail> {
         let mut source = source_of(rt.alloc(), SMALLEST)?;
         let mut sink = MemorySink::new(rt.alloc(), 1000, List::new(rt.alloc()))?;
         let words: [&str; 2] = ["sim", grain];
-        let outcome = platinum(rt.alloc(), words.as_slice(), &mut source, &mut sink);
+        let outcome = platinum(
+            &rt,
+            rt.alloc(),
+            words.as_slice(),
+            &mut source,
+            &mut sink,
+            &FreeGate,
+        );
         assert_eq!(rt; outcome.status, Status::Done);
         assert_eq!(rt; outcome.kept.len(), 3);
         assert_eq!(rt; sink.bytes(), REPORT);
@@ -203,7 +211,14 @@ fn a_write_that_fails_in_mid_stream_is_a_write_fault(rt: HostRuntime) -> Result<
     let mut source = source_of(rt.alloc(), SMALLEST)?;
     let mut sink = MemorySink::new(rt.alloc(), 1000, failing(rt.alloc(), 6)?)?;
     let words: [&str; 2] = ["sim", "coarse"];
-    let outcome = platinum(rt.alloc(), words.as_slice(), &mut source, &mut sink);
+    let outcome = platinum(
+        &rt,
+        rt.alloc(),
+        words.as_slice(),
+        &mut source,
+        &mut sink,
+        &FreeGate,
+    );
     assert_eq!(rt; outcome.status, Status::WriteFault);
     assert_eq!(rt; sink.bytes(), b"platinum report 1".as_slice());
     Ok(())
@@ -222,10 +237,12 @@ fn a_full_sink_is_a_write_fault(rt: HostRuntime) -> Result<(), Fail> {
 #[test]
 fn other_words_are_bad_words(rt: HostRuntime) -> Result<(), Fail> {
     let none: [&str; 0] = [];
-    let lists: [&[&str]; 11] = [
+    let lists: [&[&str]; 13] = [
         &["sim", "medium"],
         &["sim"],
         &["run", "fast"],
+        &["run", "coarse"],
+        &["run", "trace", "now"],
         &["gen", "-1"],
         &["gen", "007"],
         &["gen", "4294967296"],
@@ -238,7 +255,7 @@ fn other_words_are_bad_words(rt: HostRuntime) -> Result<(), Fail> {
     for words in lists {
         let mut source = source_of(rt.alloc(), SMALLEST)?;
         let mut sink = MemorySink::new(rt.alloc(), 15, List::new(rt.alloc()))?;
-        let outcome = platinum(rt.alloc(), words, &mut source, &mut sink);
+        let outcome = platinum(&rt, rt.alloc(), words, &mut source, &mut sink, &FreeGate);
         assert_eq!(rt; outcome.status, Status::BadWords);
         assert_eq!(rt; source.left(), SMALLEST);
         assert_eq!(rt; sink.bytes(), b"".as_slice());
@@ -256,10 +273,12 @@ fn words_name_commands(rt: HostRuntime) -> Result<(), Fail> {
         grain: Grain::Fine,
         output: Output::Trace,
     };
-    let lists: [(&[&str], Command); 5] = [
+    let lists: [(&[&str], Command); 7] = [
         (&["check"], Command::Check),
         (&["sim", "coarse"], report),
         (&["sim", "fine", "trace"], trace),
+        (&["run"], Command::Run(Output::Report)),
+        (&["run", "trace"], Command::Run(Output::Trace)),
         (&["gen", "7"], Command::Gen(7)),
         (&["big", "4294967295"], Command::Big(4_294_967_295)),
     ];

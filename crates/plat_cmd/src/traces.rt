@@ -19,7 +19,7 @@ fn traced<K: Sink>(grain: Grain, finished: Finished, sink: &mut K) -> Outcome
     requires items { finished.items.items ≡ history_of grain (machine finished.cfg) }
     requires ends { finished.ends.items ≡ ends_of grain (machine finished.cfg) }
     ensures { let m = machine finished.cfg
-        in HasRun grain outputs.Trace K.Sink m sink.old sink.new result.status result.kept.items }
+        in HasRun grain outputs.Trace K.Sink m sink.old sink.new result.status result.kept.items result.ran }
 {
     let written = print_items(
         &finished.cfg,
@@ -31,12 +31,14 @@ fn traced<K: Sink>(grain: Grain, finished: Finished, sink: &mut K) -> Outcome
     Outcome {
         status: status_after(complete, written),
         kept: finished.items,
+        ran: None,
     }
 }
 
 /// Makes the run of a machine and writes its history text.
 pub fn trace<K: Sink>(alloc: Global, grain: Grain, cfg: Config, sink: &mut K) -> Outcome
-    ensures { HasRun grain outputs.Trace K.Sink (machine cfg) sink.old sink.new result.status result.kept.items
+    ensures { HasRun grain outputs.Trace K.Sink (machine cfg) sink.old sink.new
+        result.status result.kept.items result.ran
         ⊎ HasStopped stops.OutOfMemory sink.old sink.new result }
 {
     match run(alloc, grain, cfg) {

@@ -35,12 +35,13 @@ pub enum Output {
     Trace,
 }
 
-/// A command: `check`, `sim` with a grain and an output, `replay`, `race`, `cost`, or `gen` or `big` with the number of a
-/// generated machine.
+/// A command: `check`, `sim` with a grain and an output, `run` with an output, `replay`, `race`, `cost`, or `gen` or `big` with the
+/// number of a generated machine.
 #[derive(Clone, Copy, Debug, PartialEq, Eq)]
 pub enum Command {
     Check,
     Sim { grain: Grain, output: Output },
+    Run(Output),
     Replay,
     Race,
     Cost,
@@ -109,6 +110,10 @@ fn command_of(words: &[&str]) -> Result<Command, WordsFault>
             grain: Grain::Fine,
             output: Output::Trace,
         })
+    } else if are_words(words, &["run"]) {
+        Ok(Command::Run(Output::Report))
+    } else if are_words(words, &["run", "trace"]) {
+        Ok(Command::Run(Output::Trace))
     } else if are_words(words, &["replay"]) {
         Ok(Command::Replay)
     } else if are_words(words, &["race"]) {

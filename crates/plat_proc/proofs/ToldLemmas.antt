@@ -72,7 +72,8 @@ pub faults-of :
     (m : Machine) (y : ProcSeen) (h : HandlerSeen) (p : Place) → Fits m y → y.handler ≡ Some h →
     y.state.place ≡ place_seen y.handler p → is_faulting y.state.place ≡ true → Faults m y h
 faults-of m y h p fits e k t =
-    let handling : IsHandling m y.actor y.state h = subst (λ (o : Option HandlerSeen). IfSome o (IsHandling m y.actor y.state)) e fits.handling in
+    let handling : IsHandling m y.actor y.state h =
+    subst (λ (o : Option HandlerSeen). IfSome o (IsHandling m y.actor y.state)) e fits.handling in
     let here : p ≡ place.Faulting = is-faulting y.handler p (sym (ap is_faulting k) ∙ t) in
     let at_ : y.state.place ≡ faults_at (Some h) =
     k ∙ ap (λ (q : Place). place_seen y.handler q) here ∙ ap (λ (o : Option HandlerSeen). faults_at o) e in
@@ -257,7 +258,9 @@ module _ (m : Machine) (y : ProcSeen) (n : ℕ) (pmap : List (Option Translation
   pub unlocks-entries : length pmap ≡ length m.entries
   unlocks-entries = ap length u.maps ∙ (stands m y valid fits).standing.all_entries
 
-  unlocks-item : item_at m (answer_of m) y.actor y.state n y.state.place ≡ Some (item.Change (change_made m (answer_of m) y.actor y.state.now u.session u.course))
+  unlocks-item :
+      item_at m (answer_of m) y.actor y.state n y.state.place
+      ≡ Some (item.Change (change_made m (answer_of m) y.actor y.state.now u.session u.course))
   unlocks-item =
       ap (λ (q : events.Place). item_at m (answer_of m) y.actor y.state n q) u.place
       ∙ ap (λ (q : Phase). session_item m (answer_of m) y.actor y.state.now u.session q) u.phase

@@ -1,6 +1,7 @@
--- the machines of this crate's tests: one node and one page, and a guest that runs code in space 0
-use Rattle.std.specs.Prelude.{List, [], ◌∷◌, None}
-use Rattle.plat_base.specs.Machine.{Machine, robin}
+-- the machines of this crate's tests: one node and one page, and a guest that runs code in space 0; and two nodes and two pages,
+-- where each guest stores into its own page and loads from the other's
+use Rattle.std.specs.Prelude.{ℕ, List, [], ◌∷◌, None}
+use Rattle.plat_base.specs.Machine.{Machine, Program, robin}
 use Rattle.plat_base.specs.declared.policies.PolicyKind.TheVariants as policy
 use Rattle.plat_base.specs.declared.guests.Instr.{Instr}
 use Rattle.plat_base.specs.declared.guests.Instr.TheVariants as instr
@@ -26,4 +27,28 @@ tried code = record {
   entries = record { space = 0; vpage = 0; page = 0 } ∷ [];
   inits = [];
   guests = record { space = 0; code = code; labels = [] } ∷ [];
+}
+
+-- it stores 1 at its own address, loads from the other's, and prints what it found there
+abbrev pub buffering_guest : ℕ → ℕ → Program
+buffering_guest own other = record {
+  space = 0;
+  code = instr.Set 1 1 ∷ instr.Store 1 own None ∷ instr.Load 2 other None ∷ instr.Print 2 ∷ instr.Halt ∷ [];
+  labels = [];
+}
+
+-- each virtual page of space 0 leads to the page of its number
+abbrev pub store_buffering : Machine
+store_buffering = record {
+  nodes = 2;
+  frames = 4;
+  words = 4;
+  pages = 2;
+  policy = policy.Replicate;
+  budget = 100;
+  schedule = robin;
+  distances = [];
+  entries = record { space = 0; vpage = 0; page = 0 } ∷ record { space = 0; vpage = 1; page = 1 } ∷ [];
+  inits = [];
+  guests = buffering_guest 0 4 ∷ buffering_guest 4 0 ∷ [];
 }

@@ -1,5 +1,5 @@
 //! The access that a guest wants: where it leads, the word that it reads or writes, and what it makes of it.
-ghost use Rattle.std.specs.Prelude.{◌≡◌, ℕ, ◌+◌, ◌/◌, ◌<◌, ◌≤◌, Some, length};
+ghost use Rattle.std.specs.Prelude.{◌≡◌, ◌+◌, ◌/◌, ◌<◌, Some};
 ghost use Rattle.plat_base.specs.Pages.{entry_at};
 ghost use Rattle.plat_base.specs.GuestRun.{reach_of as reach_by};
 ghost use Rattle.plat_base.specs.Seen.{machine};

@@ -84,7 +84,8 @@ fn forget_removed(cfg: &Config, atc: &mut Atc, page: u32, removed: Removed)
     ensures slots { atc.new
         ≡ (if removes_some removed then map (without_slot_of (machine cfg.now) page) atc.old else atc.old) }
     ensures places { places atc.new
-        ≡ (if removes_some removed then map (without_page (machine cfg.now) page) (places atc.old) else places atc.old) }
+        ≡ (if removes_some removed then map (without_page (machine cfg.now) page) (places atc.old)
+        else places atc.old) }
 {
     if removed.is_some() {
         forget_page(cfg, atc, page);

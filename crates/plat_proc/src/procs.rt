@@ -1,5 +1,5 @@
 //! Processors.
-ghost use Rattle.std.specs.Prelude.{◌≡◌, ℕ, ◌+◌, ◌*◌, ◌<◌, ◌≤◌, false, true, IsTrue, IfOk, Some, length};
+ghost use Rattle.std.specs.Prelude.{◌≡◌, ◌<◌, false, IfOk};
 ghost use Rattle.plat_base.specs.Seen.{machine};
 ghost use Rattle.plat_events.specs.Privates.{first_private, is_over, period};
 ghost use Rattle.plat_events.specs.Runs.{ended_by};

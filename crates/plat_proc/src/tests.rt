@@ -1,9 +1,10 @@
-//! Two guests, against the operations of their runs, which were worked out by hand: one without an access, and one whose store
-//! finds its page empty.
+//! Three guests, against the operations of their runs, which were worked out by hand: one without an access, one whose store
+//! finds its page empty, and one that stores into a page and loads from another.
 ghost use Rattle.std.specs.Prelude.{◌≡◌, IfOk, IsTrue};
 ghost use Rattle.plat_base.specs.Canon.{is_short};
-ghost use Rattle.plat_base.specs.Machine.{is_machine};
-ghost use Rattle.plat_proc.specs.Tried.{storing_code, switching_code, tried};
+ghost use Rattle.plat_base.specs.Machine.{is_machine, program_seen};
+ghost use Rattle.plat_base.specs.Seen.{machine};
+ghost use Rattle.plat_proc.specs.Tried.{buffering_guest, store_buffering, storing_code, switching_code, tried};
 
 use crate::{Proc, Stepped};
 use plat_base::{
@@ -225,6 +226,177 @@ fn a_store_fills_its_page_and_a_load_finds_it(rt: HostRuntime) -> Result<(), Fai
         Item::Change(filled()),
         Item::Access(access(Kind::Store, 0)),
         Item::Access(access(Kind::Load, 5)),
+    ];
+    assert_eq!(rt; proc.journal(), items.as_slice());
+    Ok(())
+}
+
+/// The guest `set r1 1`, `store r1 own`, `load r2 other`, `print r2`, `halt`.
+fn buffering(alloc: Global, own: u32, other: u32) -> Result<GuestText, OutOfMemory>
+    ensures { IfOk result (λ text. program_seen text ≡ buffering_guest own other) }
+{
+    let mut code = List::with_room(alloc, 5)?;
+    code.push(Instr::Set { d: 1, n: 1 });
+    code.push(Instr::Store {
+        s: 1,
+        k: own,
+        i: None,
+    });
+    code.push(Instr::Load {
+        d: 2,
+        k: other,
+        i: None,
+    });
+    code.push(Instr::Print(2));
+    code.push(Instr::Halt);
+    Ok(GuestText {
+        space: 0,
+        code,
+        labels: List::new(alloc),
+    })
+}
+
+/// A machine of two nodes and two pages, whose guests each store into a page of their own and load from the other's. Its words
+/// are the time, the live processors, and two each of active spaces, interrupts, directories, stamps, masks and pools; and then
+/// four of each frame.
+fn store_buffering(alloc: Global) -> Result<Config, OutOfMemory>
+    ensures { IfOk result (λ cfg. machine cfg ≡ store_buffering) }
+{
+    let mut entries = List::with_room(alloc, 2)?;
+    entries.push(Entry {
+        space: 0,
+        vpage: 0,
+        page: 0,
+    });
+    entries.push(Entry {
+        space: 0,
+        vpage: 1,
+        page: 1,
+    });
+    let mut guests = List::with_room(alloc, 2)?;
+    guests.push(buffering(alloc, 0, 4)?);
+    guests.push(buffering(alloc, 4, 0)?);
+    Ok(Config {
+        nodes: 2,
+        frames: 4,
+        words: 4,
+        pages: 2,
+        policy: PolicyKind::Replicate,
+        budget: 100,
+        schedule: Plan::Robin,
+        distances: List::new(alloc),
+        entries,
+        inits: List::new(alloc),
+        guests,
+    })
+}
+
+/// The word of the stored 1 in its first version.
+const ONE: u64 = 4294967297;
+
+/// The operations of processor 0 where it runs alone.
+fn buffered() -> [Made; 37] {
+    [
+        made(4, Op::Swap(0), 0),
+        made(0, Op::Add(1), 0),
+        made(4, Op::Swap(0), 0),
+        made(0, Op::Add(1), 1),
+        made(6, Op::Or(8), 0),
+        made(8, Op::Load, 0),
+        made(12, Op::Load, 15),
+        made(12, Op::Exchange { old: 15, new: 14 }, 15),
+        made(14, Op::Store(0), 0),
+        made(15, Op::Store(0), 0),
+        made(16, Op::Store(0), 0),
+        made(17, Op::Store(0), 0),
+        made(8, Op::Store(4294967296), 0),
+        made(10, Op::Or(1), 0),
+        made(6, Op::Store(259), 0),
+        made(14, Op::Load, 0),
+        made(14, Op::Exchange { old: 0, new: ONE }, 0),
+        made(4, Op::Swap(0), 0),
+        made(0, Op::Add(1), 2),
+        made(7, Op::Or(8), 0),
+        made(9, Op::Load, 0),
+        made(12, Op::Load, 14),
+        made(12, Op::Exchange { old: 14, new: 12 }, 14),
+        made(18, Op::Store(0), 0),
+        made(19, Op::Store(0), 0),
+        made(20, Op::Store(0), 0),
+        made(21, Op::Store(0), 0),
+        made(9, Op::Store(4294967296), 0),
+        made(11, Op::Or(1), 0),
+        made(7, Op::Store(65793), 0),
+        made(18, Op::Load, 0),
+        made(4, Op::Swap(0), 0),
+        made(0, Op::Add(1), 3),
+        made(4, Op::Swap(0), 0),
+        made(0, Op::Add(1), 4),
+        made(2, Op::Swap(0), 1),
+        made(1, Op::Sub(1), 2),
+    ]
+}
+
+/// The second frame of module 0.
+const SECOND: Frame = Frame {
+    module: 0,
+    number: 1,
+};
+
+/// The change that fills page 1 for a load.
+fn read() -> Change {
+    let after = Dir {
+        state: State::Present1,
+        frozen: false,
+        copies: Copies::none().with(SECOND),
+    };
+    let grant = Grant {
+        entry: 1,
+        frame: SECOND,
+        right: Right::Read,
+    };
+    Change {
+        page: 1,
+        time: 3,
+        cause: Cause::Read,
+        after,
+        granted: Some(grant),
+        ..filled()
+    }
+}
+
+/// The load of word 0 of page 1, which nothing was stored into.
+fn loaded() -> Access {
+    Access {
+        addr: 4,
+        page: 1,
+        new: 0,
+        version: 0,
+        frame: SECOND,
+        ..access(Kind::Load, 0)
+    }
+}
+
+#[test]
+fn a_store_and_a_load_fill_a_page_each(rt: HostRuntime) -> Result<(), Fail> {
+    let cfg = store_buffering(rt.alloc())?;
+    let mut port = RecordPort::new(rt.alloc(), &cfg, 37)?;
+    let mut proc = Proc::new(rt.alloc(), &cfg, 0)?;
+    for _ in 0..36 {
+        assert_eq!(rt; proc.step(&cfg, &mut port), Stepped::More);
+    }
+    assert_eq!(rt; proc.step(&cfg, &mut port), Stepped::Ended(End::Halted));
+    assert_eq!(rt; port.made(), buffered().as_slice());
+    assert_eq!(rt; proc.turns(), 5);
+    let stored = Access {
+        new: 1,
+        ..access(Kind::Store, 0)
+    };
+    let items = [
+        Item::Change(filled()),
+        Item::Access(stored),
+        Item::Change(read()),
+        Item::Access(loaded()),
     ];
     assert_eq!(rt; proc.journal(), items.as_slice());
     Ok(())

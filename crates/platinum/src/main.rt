@@ -7,8 +7,11 @@ use faults::{Fault, fault_of, number_of};
 use plat_base::Status;
 use plat_cmd::platinum;
 use plat_io::{StdSink, StdSource};
+use plat_table::FreeGate;
 use std::io::{BufWriter, Write};
 use std::process::ExitCode;
+use std::sync::Wait;
+use std::thread::Threads;
 use std::{env, io};
 
 /// The status where the words cannot be had: they are none of ours where one of them is no text.
@@ -32,8 +35,8 @@ fn status_after(status: Status, flushed: io::Result<()>) -> Status {
     }
 }
 
-/// Makes the command that the words name.
-fn status_of(rt: &HostRuntime) -> Status {
+/// Makes the command that the words name. Its threads are made with the handle `threads`.
+fn status_of<R: Threads + Wait + Sync>(rt: &HostRuntime, threads: &R) -> Status {
     let args = match env::args(rt) {
         Ok(args) => args,
         Err(error) => return status_of_words(error.kind()),
@@ -53,12 +56,20 @@ fn status_of(rt: &HostRuntime) -> Status {
     };
     let mut source = StdSource::new(rt.reader());
     let mut sink = StdSink::new(&mut writer);
-    let status = platinum(rt.alloc(), words.as_slice(), &mut source, &mut sink).status;
+    let outcome = platinum(
+        threads,
+        rt.alloc(),
+        words.as_slice(),
+        &mut source,
+        &mut sink,
+        &FreeGate,
+    );
+    let status = outcome.status;
     status_after(status, writer.flush())
 }
 
 fn main(rt: HostRuntime) -> ExitCode {
-    let status = status_of(&rt);
+    let status = status_of(&rt, &rt);
     if let Some(fault) = fault_of(status) {
         let _ = eprintln!(rt; "platinum: {fault}");
     }

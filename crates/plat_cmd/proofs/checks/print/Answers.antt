@@ -18,4 +18,5 @@ returns g c =
       text = c.print_machine-written.ensures.text;
       read_again = c.print_machine-written.ensures.read_again;
       history = c.without_run.ensures.kept;
+      no_threads = c.without_run.ensures.ran;
     }

@@ -21,5 +21,5 @@ returns-in-Err g c =
     let read = c.read_machine.result in
     stopped command.Check g.S.Source g.K.Sink c.args.source.now c.read_machine.new.source c.args.sink.now c.args.sink.now c.without_run.result c.in-Err.stop
     (stop_is machine_text told read (g.S.Source.faults c.args.source.now) (g.S.Source.faults c.read_machine.new.source) c.in-Err.stop c.in-Err.is c.read_machine.ensures.stopped)
-    tt (record { ended = c.without_run.ensures.status ∙ c.stop_status.ensures; history = c.without_run.ensures.kept; sink = refl })
+    tt (record { ended = c.without_run.ensures.status ∙ c.stop_status.ensures; history = c.without_run.ensures.kept; no_threads = c.without_run.ensures.ran; sink = refl })
     (not_refused machine_text told read machine c.read_machine.ensures.only c.in-Err.stop c.in-Err.is) c.read_machine.ensures.count

@@ -4,7 +4,6 @@ use Rattle.plat_cmd.specs.Commands.{read_of}
 use Rattle.plat_cmd.specs.Promises.{Promises}
 use Rattle.plat_cmd.specs.declared.words.Command.{Command}
 use Rattle.plat_cmd.specs.declared.words.Command.TheVariants as command
-use Rattle.plat_cmd.specs.declared.outcomes.Stop.TheVariants as stop
 use Rattle.plat_cmd.proofs.PromiseLemmas.{named_by, not_bad, never_bad_words, any_command, wanting, printed_or_not, summed_or_not}
 use Rattle.plat_cmd.proofs.commands.platinum.Goals as goal
 
@@ -39,6 +38,22 @@ returns-in-Ok-Sim-clause-bad_words g c =
 
 pub returns-in-Ok-Sim-clause-unread : goal.returns-in-Ok-Sim-clause-unread
 returns-in-Ok-Sim-clause-unread g c = λ bad. absurd (never_bad_words c.sim.ensures bad)
+
+pub returns-in-Ok-Run-clause-named : goal.returns-in-Ok-Run-clause-named
+returns-in-Ok-Run-clause-named g c =
+    named_by c.read_words.result (read_of (texts_of c.args.words.now)) (command.Run c.in-Ok-Run.output)
+    (c.in-Ok-Run.is ∙ ap (λ (d : Command). Ok d) c.in-Ok-Run.field-0-is)
+    (λ d. Promises d g.S.Source g.K.Sink c.args.source.now c.run.new.source c.args.sink.now c.run.new.sink c.run.result)
+    c.read_words.ensures.command c.read_words.ensures.bad_words c.run.ensures
+
+pub returns-in-Ok-Run-clause-bad_words : goal.returns-in-Ok-Run-clause-bad_words
+returns-in-Ok-Run-clause-bad_words g c =
+    not_bad c.read_words.result (read_of (texts_of c.args.words.now)) (command.Run c.in-Ok-Run.output)
+    (c.in-Ok-Run.is ∙ ap (λ (d : Command). Ok d) c.in-Ok-Run.field-0-is) _
+    c.read_words.ensures.command c.read_words.ensures.bad_words
+
+pub returns-in-Ok-Run-clause-unread : goal.returns-in-Ok-Run-clause-unread
+returns-in-Ok-Run-clause-unread g c = λ bad. absurd (never_bad_words c.run.ensures bad)
 
 pub returns-in-Ok-Gen-clause-named : goal.returns-in-Ok-Gen-clause-named
 returns-in-Ok-Gen-clause-named g c =
@@ -125,4 +140,4 @@ returns-in-Err-OutOfMemory-clause-named g c =
     any_command (read_of (texts_of c.args.words.now))
     (λ d. Promises d g.S.Source g.K.Sink c.args.source.now c.args.source.now c.args.sink.now c.args.sink.now out.result)
     (λ d. wanting g.S.Source g.K.Sink c.args.source.now c.args.sink.now c.args.sink.now out.result d
-    (record { ended = out.ensures.status; history = out.ensures.kept; sink = refl }))
+    (record { ended = out.ensures.status; history = out.ensures.kept; no_threads = out.ensures.ran; sink = refl }))

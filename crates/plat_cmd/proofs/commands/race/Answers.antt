@@ -12,5 +12,5 @@ returns-in-Ok g c =
 pub returns-in-Err : goal.returns-in-Err
 returns-in-Err g c =
     failed command.Race g.S.Source g.K.Sink c.args.source.now c.read_judged.new.source c.args.sink.now c.args.sink.now c.without_run.result
-    c.in-Err.status c.in-Err.ensures.failed c.without_run.ensures.status (λ s. tt) c.without_run.ensures.kept refl
+    c.in-Err.status c.in-Err.ensures.failed c.without_run.ensures.status (λ s. tt) c.without_run.ensures.kept c.without_run.ensures.ran refl
     c.read_judged.ensures.count

@@ -32,4 +32,5 @@ returns g c =
           c.print_costs-written.ensures.written);
       ended = ended_by written status.Done c.without_run.result.status now_is;
       history = c.without_run.ensures.kept;
+      no_threads = c.without_run.ensures.ran;
     }

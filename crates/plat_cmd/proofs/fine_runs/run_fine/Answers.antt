@@ -1,4 +1,4 @@
-use Rattle.std.proofs.Common.{refl, ap, ◌∙◌}
+use Rattle.std.proofs.Common.{ap, ◌∙◌}
 use Rattle.plat_base.specs.Machine.{Machine}
 use Rattle.plat_base.specs.Seen.{machine}
 use Rattle.plat_events.specs.Runs.{Fine, ends_of}
@@ -14,7 +14,7 @@ returns-clause-items c =
     c.finish.ensures.items
     ∙ ap (λ (s : Fine). s.history)
     (made_is (machine c.args.cfg) c.in_ok-fine.fine.machine (standing_fine c.make_events.new.fine c.make_events.new.schedule)
-    4194304 c.in_ok-fine.ensures.machine refl c.make_events.ensures.events)
+    c.most_events-events.result c.in_ok-fine.ensures.machine c.most_events-events.ensures c.make_events.ensures.events)
 
 pub returns-clause-ends : goal.returns-clause-ends
 returns-clause-ends c =
@@ -22,4 +22,4 @@ returns-clause-ends c =
     ∙ (ap (λ (m : Machine). ends_of m c.make_events.new.fine.fine.privates) (c.make_events.ensures.machine ∙ c.in_ok-fine.ensures.machine)
     ∙ ap (λ (s : Fine). ends_of (machine c.args.cfg) s.privates)
     (made_is (machine c.args.cfg) c.in_ok-fine.fine.machine (standing_fine c.make_events.new.fine c.make_events.new.schedule)
-    4194304 c.in_ok-fine.ensures.machine refl c.make_events.ensures.events))
+    c.most_events-events.result c.in_ok-fine.ensures.machine c.most_events-events.ensures c.make_events.ensures.events))

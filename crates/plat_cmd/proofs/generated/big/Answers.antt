@@ -14,7 +14,7 @@ pub returns-clause-complete : goal.returns-clause-complete
 returns-clause-complete g c = λ quiet.
     let out = c.sum_nth.result in
     ⊎_elim
-    (λ done. done_complete g.K.Sink c.args.sink.now c.sum_nth.new.sink out.status out.kept.items (command.Big c.args.n) tt done quiet)
+    (λ done. done_complete g.K.Sink c.args.sink.now c.sum_nth.new.sink out.status out.kept.items out.ran (command.Big c.args.n) tt done quiet)
     (λ has. inr has.ended) c.sum_nth.ensures
 
 pub returns-clause-ended : goal.returns-clause-ended

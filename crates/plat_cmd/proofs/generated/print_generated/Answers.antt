@@ -14,7 +14,7 @@ pub returns-clause-complete : goal.returns-clause-complete
 returns-clause-complete g c = λ quiet.
     let out = c.print_nth.result in
     ⊎_elim
-    (λ done. done_complete g.K.Sink c.args.sink.now c.print_nth.new.sink out.status out.kept.items (command.Gen c.args.n) tt done quiet)
+    (λ done. done_complete g.K.Sink c.args.sink.now c.print_nth.new.sink out.status out.kept.items out.ran (command.Gen c.args.n) tt done quiet)
     (λ has. inr has.ended) c.print_nth.ensures
 
 pub returns-clause-ended : goal.returns-clause-ended

@@ -1,4 +1,4 @@
-use Rattle.std.proofs.Common.{◌≡◌, sym, subst, ◌∙◌, List}
+use Rattle.std.proofs.Common.{◌≡◌, refl, sym, subst, ◌∙◌, List}
 use Rattle.std.specs.Prelude.{replicate}
 use Rattle.plat_base.specs.Machine.{Machine}
 use Rattle.plat_gen.specs.Generated.{generated}
@@ -44,6 +44,7 @@ returns g c =
     c.as_slice-2.result.now (sym (c.as_slice.ensures ∙ c.requires.items)) (sym (c.as_slice-2.ensures ∙ c.requires.ends)) c.summary-written.ensures
     in record {
       history = kept;
+      no_threads = refl;
       coherent = subst (λ (is : List Item). IsCoherentRun m answer is (ends_of grain.Coarse m)) (sym kept) (coarse_run_coherent m answer limits);
       frames = subst (λ (is : List Item). AtEachAccess is (FindsFrameWord m)) (sym kept) (run_finds_words m answer limits);
       halted =

@@ -44,4 +44,5 @@ returns g c =
           c.first-race.ensures.free) run.one.legal;
       ended = ended_by written status.Done now now_is;
       history = c.without_run.ensures.kept;
+      no_threads = c.without_run.ensures.ran;
     }

@@ -32,6 +32,7 @@ returns g c =
     c.as_slice-2.result.now (sym c.as_slice.ensures) (sym c.as_slice-2.ensures) c.report-written.ensures in
     record {
       history = refl;
+      no_threads = refl;
       coherent = good_is_coherent h.machine (policy_answer h.machine.policy) h.items h.ends c.requires.good;
       written =
           written_by g.K.Sink c.args.sink.now c.report-written.new.sink c.report-written.result (report h.machine h.items h.ends) complete c.status_after.result

@@ -1,4 +1,4 @@
-use Rattle.std.proofs.Common.{ap, sym, ◌∙◌, List}
+use Rattle.std.proofs.Common.{None, refl, ap, sym, ◌∙◌, List}
 use Rattle.plat_base.specs.Seen.{machine}
 use Rattle.plat_base.specs.Statuses.{status_of}
 use Rattle.plat_base.specs.declared.endings.Ended.{Ended}
@@ -21,7 +21,7 @@ returns g c =
     (c.status_of-complete.ensures
     ∙ (ap (λ (es : List Ended). status_of es c.is_limited.result) (c.as_slice-3.ensures ∙ c.requires.ends)
     ∙ ap (status_of (ends_of gr m)) c.is_limited.ensures)) in
-    has_run gr output.Trace g.K.Sink m c.args.sink.now c.print_items-written.new.sink c.print_items-written.result c.status_after.result c.args.finished.items.items
+    has_run gr output.Trace g.K.Sink m c.args.sink.now c.print_items-written.new.sink c.print_items-written.result c.status_after.result c.args.finished.items.items None refl
     c.args.finished.cfg.limits c.requires.items now_is
     (same_items (λ is es. Adds g.K.Sink c.args.sink.now c.print_items-written.new.sink c.print_items-written.result (output_of output.Trace m is es)) (history_of gr m) c.as_slice.result.now
     (ends_of gr m) c.as_slice-2.result.now (sym (c.as_slice.ensures ∙ c.requires.items)) (sym (c.as_slice-2.ensures ∙ c.requires.ends)) c.print_items-written.ensures.written)

@@ -1,0 +1,61 @@
+use Rattle.std.proofs.Common.{◌≡◌, inr, refl, sym, subst, ◌∙◌, ⊎_elim}
+use Rattle.plat_base.specs.Seen.{machine}
+use Rattle.plat_cmd.specs.Inputs.{machine_text}
+use Rattle.plat_cmd.specs.Promises.{IsNoRefusal, Promises}
+use Rattle.plat_cmd.specs.Steps.{stop_status}
+use Rattle.plat_cmd.specs.declared.words.Command.{Command}
+use Rattle.plat_cmd.specs.declared.words.Command.TheVariants as command
+use Rattle.plat_cmd.specs.declared.words.Output.{Output}
+use Rattle.plat_cmd.specs.declared.words.Output.TheVariants as output
+use Rattle.plat_cmd.specs.declared.outcomes.Stop.TheVariants as stop
+use Rattle.plat_cmd.proofs.PromiseLemmas.{did, stopped, told_all, told_as, only_it, stop_is, not_refused}
+use Rattle.plat_cmd.proofs.commands.run.Goals as goal
+
+-- the output of this arm
+of_output : (o p : Output) → o ≡ p → (P : Command → Type 0) → P (command.Run p) → P (command.Run o)
+of_output o p same P holds = subst (λ (x : Output). P (command.Run x)) (sym same) holds
+
+pub returns-in-Report : goal.returns-in-Report
+returns-in-Report g c =
+    let did_run = command.Run output.Report in
+    let told = g.S.Source.left c.args.source.now in
+    let left = g.S.Source.left c.read_machine.new.source in
+    let read = c.read_machine.result in
+    let m = machine c.in-Ok.cfg in
+    let out = c.run_reported.result in
+    of_output c.args.output output.Report c.in-Report.is
+    (λ d. Promises d g.S.Source g.K.Sink c.args.source.now c.read_machine.new.source c.args.sink.now c.run_reported.new.sink out)
+    (⊎_elim
+    (λ run. did did_run g.S.Source g.K.Sink c.args.source.now c.read_machine.new.source c.args.sink.now c.run_reported.new.sink out m
+    (told_as told left read c.in-Ok.cfg c.in-Ok.is c.read_machine.ensures.found c.read_machine.ensures.exact c.read_machine.ensures.all) run
+    (only_it machine_text told read machine c.read_machine.ensures.only c.in-Ok.cfg c.in-Ok.is) c.read_machine.ensures.count)
+    (λ has. stopped did_run g.S.Source g.K.Sink c.args.source.now c.read_machine.new.source c.args.sink.now c.run_reported.new.sink out stop.OutOfMemory tt tt has
+    (told_all machine_text told (λ it. IsNoRefusal (stop_status stop.OutOfMemory)) (λ it. inr refl)) c.read_machine.ensures.count) c.run_reported.ensures)
+
+pub returns-in-Trace : goal.returns-in-Trace
+returns-in-Trace g c =
+    let did_run = command.Run output.Trace in
+    let told = g.S.Source.left c.args.source.now in
+    let left = g.S.Source.left c.read_machine.new.source in
+    let read = c.read_machine.result in
+    let m = machine c.in-Ok.cfg in
+    let out = c.run_traced.result in
+    of_output c.args.output output.Trace c.in-Trace.is
+    (λ d. Promises d g.S.Source g.K.Sink c.args.source.now c.read_machine.new.source c.args.sink.now c.run_traced.new.sink out)
+    (⊎_elim
+    (λ run. did did_run g.S.Source g.K.Sink c.args.source.now c.read_machine.new.source c.args.sink.now c.run_traced.new.sink out m
+    (told_as told left read c.in-Ok.cfg c.in-Ok.is c.read_machine.ensures.found c.read_machine.ensures.exact c.read_machine.ensures.all) run
+    (only_it machine_text told read machine c.read_machine.ensures.only c.in-Ok.cfg c.in-Ok.is) c.read_machine.ensures.count)
+    (λ has. stopped did_run g.S.Source g.K.Sink c.args.source.now c.read_machine.new.source c.args.sink.now c.run_traced.new.sink out stop.OutOfMemory tt tt has
+    (told_all machine_text told (λ it. IsNoRefusal (stop_status stop.OutOfMemory)) (λ it. inr refl)) c.read_machine.ensures.count) c.run_traced.ensures)
+
+pub returns-in-Err : goal.returns-in-Err
+returns-in-Err g c =
+    let told = g.S.Source.left c.args.source.now in
+    let left = g.S.Source.left c.read_machine.new.source in
+    let read = c.read_machine.result in
+    stopped (command.Run c.args.output) g.S.Source g.K.Sink c.args.source.now c.read_machine.new.source c.args.sink.now c.args.sink.now c.without_run.result
+    c.in-Err.stop
+    (stop_is machine_text told read (g.S.Source.faults c.args.source.now) (g.S.Source.faults c.read_machine.new.source) c.in-Err.stop c.in-Err.is c.read_machine.ensures.stopped)
+    tt (record { ended = c.without_run.ensures.status ∙ c.stop_status.ensures; history = c.without_run.ensures.kept; no_threads = c.without_run.ensures.ran; sink = refl })
+    (not_refused machine_text told read machine c.read_machine.ensures.only c.in-Err.stop c.in-Err.is) c.read_machine.ensures.count
