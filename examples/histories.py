@@ -202,8 +202,9 @@ REMOVES = {'invalidate': 'all', 'restrict': 'writes'}
 def senders_of(history):
     """For the place of each applied message, the change that sent it.
 
-    A message by interrupt belongs to the change that its initiator makes next: the targets apply it before the change
-    stands. One by activation has waited since the first change, after the translation was granted, that removed it.
+    It is the first change of the page, behind the one that granted the translation, with which another actor took away
+    what the message takes. Where it stands does not tell it: a message by interrupt is applied before its change, one by
+    activation behind it, and in a history that was merged from the journals of threads it may be the other way round.
     """
     grants, senders, changes = {}, {}, {}
     for item in history.items:
@@ -213,12 +214,10 @@ def senders_of(history):
         if isinstance(item, Change) and item.entry() is not None:
             grants[item.actor, item.entry()] = item.seq
         elif isinstance(item, Applied):
-            sent = [change for change in changes.get(history.machine.page_of(item.entry), [])
-                    if change.actor != item.actor and change.removed == REMOVES[item.message]]
             granted = grants.get((item.actor, item.entry), -1)
-            waited = [change for change in sent if change.place < item.place and change.seq > granted]
-            coming = [change for change in sent if change.place > item.place]
-            chosen = waited if item.how == 'activation' and waited else coming
-            if chosen:
-                senders[item.place] = chosen[0]
+            sender = next((change for change in changes.get(history.machine.page_of(item.entry), [])
+                           if change.actor != item.actor and change.seq > granted
+                           and change.removed == REMOVES[item.message]), None)
+            if sender is not None:
+                senders[item.place] = sender
     return senders

@@ -4,6 +4,8 @@ pub mod CommandLemmas
 pub mod StepLemmas
 pub mod RunLemmas
 pub mod FineRunLemmas
+pub mod FaultLemmas
+pub mod TextFaultLemmas
 pub mod ReadLemmas
 pub mod EndingLemmas
 pub mod PromiseLemmas
@@ -12,3 +14,4 @@ pub mod RaceLemmas
 pub mod JudgingLemmas
 pub mod RunDoneLemmas
 pub mod ThreadRunLemmas
+pub mod TrialLemmas

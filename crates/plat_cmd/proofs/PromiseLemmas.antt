@@ -18,15 +18,16 @@ use Rattle.plat_grammar.specs.HistoryFaults.{history_at}
 use Rattle.plat_grammar.specs.HistoryGrammar.{IsHistory, IsHistoryTextOf}
 use Rattle.plat_history.specs.Shown.{seen}
 use Rattle.plat_history.specs.declared.histories.History.{History as Read}
-use Rattle.plat_io.specs.Streams.{HasRisen, IsAtEnd}
+use Rattle.plat_io.specs.Streams.{HasRisen, IsAtEnd, added}
+use Rattle.plat_io.specs.Takes.{TakesCount}
 use Rattle.plat_io.specs.declared.sinks.Sink.{Ghosts}
 use Rattle.plat_io.specs.declared.sources.Source.{Ghosts as Reader}
 use Rattle.plat_gen.specs.Generated.{generated}
 use Rattle.plat_table.specs.Closed.{ClosedSeen}
-use Rattle.plat_cmd.specs.Inputs.{Input, machine_text, history_text, nothing, input_of, reads_some, Told, IsToldAs, IsToldHistory, IsRead, HasRead, IfTold, IsFault}
-use Rattle.plat_cmd.specs.Works.{HasPrinted, HasSummed, HasDone, bad_of, first_bad_of, IsFirstBad, IsComplete, ends_of, is_limited, is_run, is_judge, may_reach_limit, may_end}
+use Rattle.plat_cmd.specs.Inputs.{Input, machine_text, history_text, nothing, input_of, reads_some, Told, IsToldAs, IsToldHistory, IsRead, HasRead, IfTold, IsFault, TakesText, too_long}
+use Rattle.plat_cmd.specs.Works.{HasPrinted, HasSummed, HasDone, bad_of, first_bad_of, IsFirstBad, ComesToEnd, IsWritten, whole_output, ends_left, output_of, ends_of, is_limited, is_run, is_judge, may_reach_limit, may_end}
 use Rattle.plat_cmd.specs.Judgings.{HasFailed}
-use Rattle.plat_cmd.specs.Promises.{IsNoRefusal, IsQuiet, IsEnded, Promises}
+use Rattle.plat_cmd.specs.Promises.{IsNoRefusal, IsQuiet, IsEnded, CompletesWith, IsComplete, PromisesDoing, Promises}
 use Rattle.plat_cmd.specs.Steps.{IsStop, StopsAs, AcceptsAs, read_as, HasStopped, stop_status}
 use Rattle.plat_cmd.specs.declared.words.Command.{Command}
 use Rattle.plat_cmd.specs.declared.words.Command.TheVariants as command
@@ -39,7 +40,7 @@ use Rattle.plat_cmd.proofs.EndingLemmas.{is_run_status, run_status, unlimited_st
 
 -- ---- a command that did its work
 
-may_run : (c : Command) → is_run c ≡ true → (s : Status) → is_run_status s ≡ true → (s ≡ status.EventLimit → may_reach_limit c ≡ true) → may_end c s ≡ true
+pub may_run : (c : Command) → is_run c ≡ true → (s : Status) → is_run_status s ≡ true → (s ≡ status.EventLimit → may_reach_limit c ≡ true) → may_end c s ≡ true
 may_run c runs status.Done h limit = refl
 may_run c runs (status.HistoryBad bad) h limit = absurd cc
 may_run c runs (status.Refused refused) h limit = absurd cc
@@ -52,7 +53,7 @@ may_run c runs status.OutOfMemory h limit = refl
 may_run c runs status.BadWords h limit = absurd cc
 
 -- a run that is limited may reach its limit
-may_be_limited : (ends : List Ended) (limit : Bool) → status_of ends limit ≡ status.EventLimit → limit ≡ true
+pub may_be_limited : (ends : List Ended) (limit : Bool) → status_of ends limit ≡ status.EventLimit → limit ≡ true
 may_be_limited ends true is = refl
 may_be_limited ends false is = absurd (unlimited_status ends is)
 
@@ -89,17 +90,25 @@ module _ {K : Type 0} (sink : Ghosts K) (old new : K) (now : Status) (kept : Lis
   done_may_end command.Replay h done =
       ⊎_elim (λ is. ap (may_end command.Replay) is ∙ may_run command.Replay refl (status_of h.ends false) (run_status h.ends false) (may_be_limited h.ends false)) (λ is. ap (may_end command.Replay) is) done.ended
 
-  done_has_written : (c : Command) (it : Told (input_of c)) → HasDone c sink it old new now kept ran → now ≡ status.WriteFault → HasRisen (sink.faults old) (sink.faults new)
-  done_has_written command.Check m done = done.written.risen
-  done_has_written (command.Sim g o) m done = done.written.risen
-  done_has_written (command.Run o) m done = done.written.risen
-  done_has_written (command.Gen n) it done = done.written.risen
-  done_has_written (command.Big n) it done = done.written.risen
-  done_has_written command.Replay h done = done.written.risen
-  done_has_written command.Race h done = done.written.risen
-  done_has_written command.Cost h done = done.written.risen
+  -- where no write fails, all was written
+  all_of : (bytes : List ℕ) → IsWritten sink old new now bytes → IsQuiet (sink.faults old) (sink.faults new) → sink.holds new ≡ added (sink.holds old) bytes
+  all_of bytes written quiet = written.whole (λ fault. quiet (written.risen fault))
 
-  pub done_complete : (c : Command) (it : Told (input_of c)) → HasDone c sink it old new now kept ran → IsQuiet (sink.faults old) (sink.faults new) → IsComplete c it now kept
+  done_whole :
+      (c : Command) (it : Told (input_of c)) → HasDone c sink it old new now kept ran → IsQuiet (sink.faults old) (sink.faults new)
+      → sink.holds new ≡ added (sink.holds old) (whole_output c it kept ran)
+  done_whole command.Check m done quiet = all_of _ done.written quiet
+  done_whole (command.Sim g o) m done quiet = all_of _ done.written quiet
+  done_whole (command.Run o) m done quiet =
+      subst (λ (x : Option ClosedSeen). sink.holds new ≡ added (sink.holds old) (output_of o m kept (ends_left x))) (sym done.threads)
+      (all_of (output_of o m kept done.left.ends) done.written quiet)
+  done_whole (command.Gen n) it done quiet = all_of _ done.written quiet
+  done_whole (command.Big n) it done quiet = all_of _ done.written quiet
+  done_whole command.Replay h done quiet = all_of _ done.written quiet
+  done_whole command.Race h done quiet = all_of _ done.written quiet
+  done_whole command.Cost h done quiet = all_of _ done.written quiet
+
+  pub done_complete : (c : Command) (it : Told (input_of c)) → HasDone c sink it old new now kept ran → IsQuiet (sink.faults old) (sink.faults new) → ComesToEnd c it now kept
   done_complete command.Check m done quiet = ⊎_elim (λ is. inl is) (λ fault. absurd (quiet (done.written.risen fault))) done.ended
   done_complete (command.Sim g o) m done quiet = λ guests.
       ⊎_elim (λ is. finished_status g m kept done.coherent guests now is) (λ fault. absurd (quiet (done.written.risen fault))) done.ended
@@ -132,7 +141,7 @@ bad_is_not_good h bad first good = some_is_not_none bad (sym first ∙ good)
     some_is_not_none bad is = cc
 
 -- a history that is bad is not one of a run that is done
-found_complete : (c : Command) (it : Told (input_of c)) (bad : Bad) (now : Status) (kept : List Item) → IsFirstBad c it bad → IsComplete c it now kept
+found_complete : (c : Command) (it : Told (input_of c)) (bad : Bad) (now : Status) (kept : List Item) → IsFirstBad c it bad → ComesToEnd c it now kept
 found_complete command.Check m bad now kept first = absurd first
 found_complete (command.Sim g o) m bad now kept first = absurd first
 found_complete (command.Run o) m bad now kept first = absurd first
@@ -141,9 +150,6 @@ found_complete (command.Big n) it bad now kept first = absurd first
 found_complete command.Replay h bad now kept first = λ whole. absurd (bad_is_not_good h bad first whole.good)
 found_complete command.Race h bad now kept first = λ good. absurd (bad_is_not_good h bad first good)
 found_complete command.Cost h bad now kept first = λ good. absurd (bad_is_not_good h bad first good)
-
-bad_is_no_write_fault : (bad : Bad) → status.HistoryBad bad ≡ status.WriteFault → ⊥
-bad_is_no_write_fault bad is = cc
 
 bad_is_no_read_fault : (bad : Bad) → status.HistoryBad bad ≡ status.ReadFault → ⊥
 bad_is_no_read_fault bad is = cc
@@ -210,13 +216,8 @@ stop_no_bad (stop.Refused r) P = tt
 stop_no_bad stop.ReadFault P = tt
 stop_no_bad stop.OutOfMemory P = tt
 
-stop_write_fault : (s : Stop) → stop_status s ≡ status.WriteFault → ⊥
-stop_write_fault (stop.Refused r) fault = cc
-stop_write_fault stop.ReadFault fault = cc
-stop_write_fault stop.OutOfMemory fault = cc
-
 -- want of memory is free
-want_complete : (c : Command) (it : Told (input_of c)) (now : Status) (kept : List Item) → now ≡ status.OutOfMemory → IsComplete c it now kept
+want_complete : (c : Command) (it : Told (input_of c)) (now : Status) (kept : List Item) → now ≡ status.OutOfMemory → ComesToEnd c it now kept
 want_complete command.Check m now kept want = inr want
 want_complete (command.Sim g o) m now kept want = λ guests. inl (inr want)
 want_complete (command.Run o) m now kept want = λ guests. inl (inr want)
@@ -228,7 +229,7 @@ want_complete command.Cost h now kept want = λ good. inr want
 
 -- ---- both
 
-true_or_false : (b : Bool) → b ≡ true → b ≡ false → ⊥
+pub true_or_false : (b : Bool) → b ≡ true → b ≡ false → ⊥
 true_or_false true h k = absurd cc
 true_or_false false h k = absurd cc
 
@@ -254,7 +255,6 @@ module _ {K : Type 0} (c : Command) (sink : Ghosts K) (old new : K) (out : Outco
       let told = done_is_told sink old new out.status out.kept.items out.ran c it works in
       record {
         ends = done_may_end sink old new out.status out.kept.items out.ran c it works;
-        write_fault = done_has_written sink old new out.status out.kept.items out.ran c it works;
         silent = λ silent. absurd (true_or_false (is_silent out.status) silent told);
         nothing_kept = λ silent. absurd (true_or_false (is_silent out.status) silent told);
         nothing_ran = λ silent. absurd (true_or_false (is_silent out.status) silent told);
@@ -263,7 +263,6 @@ module _ {K : Type 0} (c : Command) (sink : Ghosts K) (old new : K) (out : Outco
   pub stopped_end : (s : Stop) → may_end c (stop_status s) ≡ true → HasStopped s old new out → IsEnded c sink old new out
   stopped_end s may has = record {
     ends = ap (may_end c) has.ended ∙ may;
-    write_fault = λ fault. absurd (stop_write_fault s (sym has.ended ∙ fault));
     silent = λ h. has.sink;
     nothing_kept = λ h. has.history;
     nothing_ran = λ h. has.no_threads;
@@ -272,59 +271,135 @@ module _ {K : Type 0} (c : Command) (sink : Ghosts K) (old new : K) (out : Outco
   pub stopped_silent : (s : Stop) → HasStopped s old new out → is_silent out.status ≡ false → ⊥
   stopped_silent s has told = true_or_false (is_silent out.status) (ap is_silent has.ended ∙ stop_is_silent s) told
 
-module _ {S K : Type 0} (c : Command) (source : Reader S) (sink : Ghosts K) (before after : S) (old new : K) (out : Outcome) where
+  pub did_complete :
+      (it : Told (input_of c)) → HasDone c sink it old new out.status out.kept.items out.ran → IsQuiet (sink.faults old) (sink.faults new)
+      → IsComplete c it sink old new out
+  did_complete it works quiet = record {
+    ends = done_complete sink old new out.status out.kept.items out.ran c it works quiet;
+    whole = λ told. done_whole sink old new out.status out.kept.items out.ran c it works quiet;
+  }
+
+  -- with a status that writes nothing
+  pub silent_complete :
+      (it : Told (input_of c)) (output : List ℕ) → is_silent out.status ≡ true → ComesToEnd c it out.status out.kept.items → CompletesWith c it output sink old new out
+  silent_complete it output silent ends = record { ends = ends; whole = λ told. absurd (true_or_false (is_silent out.status) silent told) }
+
+  wanting_with : (it : Told (input_of c)) (output : List ℕ) → out.status ≡ status.OutOfMemory → CompletesWith c it output sink old new out
+  wanting_with it output want = silent_complete it output (ap is_silent want) (want_complete c it out.status out.kept.items want)
+
+  pub wanting_complete : (it : Told (input_of c)) → out.status ≡ status.OutOfMemory → IsComplete c it sink old new out
+  wanting_complete it want = wanting_with it (whole_output c it out.kept.items out.ran) want
+
+-- ---- how much was taken
+
+-- the text is too long by either of two sayings
+pub takes_as : (i : Input) (told left : Option (List ℕ)) (P Q : Type 0) → (P → Q) → (Q → P) → TakesText i told left P → TakesText i told left Q
+takes_as i told left P Q there back taken =
+    (taken.0, taken.1, taken.2, (λ long. taken.3.0 (back long), λ all. there (taken.3.1 all)))
+
+-- a text that is not too long
+pub takes_short : (i : Input) (told left : Option (List ℕ)) (P Q : Type 0) → (P → ⊥) → (Q → ⊥) → TakesText i told left P → TakesText i told left Q
+takes_short i told left P Q unsaid other = takes_as i told left P Q (λ long. absurd (unsaid long)) (λ long. absurd (other long))
+
+-- where nothing is read
+takes_nothing : (i : Input) (told : Option (List ℕ)) (P : Type 0) → (P → ⊥) → TakesText i told told P
+takes_nothing i told P unsaid = (0, still told, omega arith, (λ long. absurd (unsaid long), λ all. absurd (omega arith)))
+  where
+    still : (told : Option (List ℕ)) → TakesCount 0 told told
+    still None = tt
+    still (Some bytes) = (omega arith, refl)
+
+-- by what the reading of a text answered
+pub takes_ok :
+    {X E : Type 0} {e : E} (i : Input) (told left : Option (List ℕ)) (result : Result X E) (x : X) → result ≡ Ok x
+    → TakesText i told left (result ≡ Err e) → TakesText i told left ⊥
+takes_ok {e = e} i told left result x is = takes_short i told left (result ≡ Err e) ⊥ (λ long. ok_or_err result is long) (λ f. f)
+  where
+    ok_or_err : {X E : Type 0} {x : X} {e : E} (r : Result X E) → r ≡ Ok x → r ≡ Err e → ⊥
+    ok_or_err r is other = cc
+
+pub takes_err :
+    {X E : Type 0} {e : E} (i : Input) (told left : Option (List ℕ)) (result : Result X E) (s : E) → result ≡ Err s
+    → TakesText i told left (result ≡ Err e) → TakesText i told left (s ≡ e)
+takes_err {e = e} i told left result s is =
+    takes_as i told left (result ≡ Err e) (s ≡ e) (λ long. same_err result is long) (λ same. is ∙ ap (λ x. Err x) same)
+  where
+    same_err : {X E : Type 0} {s e : E} (r : Result X E) → r ≡ Err s → r ≡ Err e → s ≡ e
+    same_err r is other = cc
+
+told_not_long : (s : Status) → is_silent s ≡ false → s ≡ status.Refused too_long → ⊥
+told_not_long s told long = true_or_false (is_silent s) (ap is_silent long) told
+
+bad_not_long : (bad : Bad) → status.HistoryBad bad ≡ status.Refused too_long → ⊥
+bad_not_long bad is = cc
+
+pub stop_long : (s : Stop) → stop_status s ≡ status.Refused too_long → s ≡ stop.Refused too_long
+stop_long (stop.Refused r) is = cc
+stop_long stop.ReadFault is = absurd cc
+stop_long stop.OutOfMemory is = absurd cc
+
+-- a call took what a text may have, and not the byte above
+abbrev pub TakesShort : {S : Type 0} → Command → Reader S → S → S → Type 0
+TakesShort c source before after = TakesText (input_of c) (source.left before) (source.left after) ⊥
+
+module _ {S K : Type 0} (c : Command) (Does : Told (input_of c) → K → K → Status → List Item → Option ClosedSeen → Type 0)
+    (output : Told (input_of c) → List Item → Option ClosedSeen → List ℕ)
+    (source : Reader S) (sink : Ghosts K) (before after : S) (old new : K) (out : Outcome) where
   abbrev Works : Told (input_of c) → Type 0
-  Works it = HasDone c sink it old new out.status out.kept.items out.ran
+  Works it = Does it old new out.status out.kept.items out.ran
 
   -- what is accepted of what was read
   abbrev Accepted : Told (input_of c) → Type 0
   Accepted it = Works it ⊎ IsSomeAnd (bad_of out.status) (IsFirstBad c it) ⊎ IsNoRefusal out.status
 
   abbrev Comes : Told (input_of c) → Type 0
-  Comes it = IsQuiet (source.faults before) (source.faults after) → IsQuiet (sink.faults old) (sink.faults new) → IsComplete c it out.status out.kept.items
+  Comes it = IsQuiet (source.faults before) (source.faults after) → IsQuiet (sink.faults old) (sink.faults new) → CompletesWith c it (output it out.kept.items out.ran) sink old new out
 
-  -- a command that did its work with what it read, which is all that the source can tell
-  pub did :
-      (it : Told (input_of c)) → IsRead (input_of c) source before after it → Works it
-      → IfTold (input_of c) (source.left before) (λ other. it ≡ other) → source.faults before ≤ source.faults after
-      → Promises c source sink before after old new out
-  did it read works only count =
-      let told = done_is_told sink old new out.status out.kept.items out.ran c it works in
+  -- a call that did its work with what it read, which is all that the source can tell
+  pub did_so :
+      (it : Told (input_of c)) → IsRead (input_of c) source before after it → Works it → is_silent out.status ≡ false → IsEnded c sink old new out
+      → ((other : Told (input_of c)) → Works other → IsQuiet (sink.faults old) (sink.faults new)
+      → CompletesWith c other (output other out.kept.items out.ran) sink old new out)
+      → IfTold (input_of c) (source.left before) (λ other. it ≡ other) → source.faults before ≤ source.faults after → TakesShort c source before after
+      → PromisesDoing c Does output source sink before after old new out
+  did_so it read works told ended comes only count short =
       record {
         done = λ not_silent. (it, read, works);
         bad = told_no_bad out.status (λ bad. HasRead (input_of c) source before after (λ other. IsFirstBad c other bad)) told;
         accepted = told_more (input_of c) (source.left before) (λ other. it ≡ other) Accepted (λ other same. inl (subst Works same works)) only;
         complete = told_more (input_of c) (source.left before) (λ other. it ≡ other) Comes
-            (λ other same read_quiet quiet. done_complete sink old new out.status out.kept.items out.ran c other (subst Works same works) quiet) only;
-        ended = did_end c sink old new out it works;
+            (λ other same read_quiet quiet. comes other (subst Works same works) quiet) only;
+        ended = ended;
         refused = told_no_refusal out.status (λ refused. IfSome (source.left before) (λ bytes. IsFault (input_of c) bytes refused)) told;
         read_fault = λ fault. absurd (true_or_false (is_silent out.status) (ap is_silent fault) told);
+        taken = takes_short (input_of c) (source.left before) (source.left after) ⊥ (out.status ≡ status.Refused too_long) (λ f. f) (told_not_long out.status told) short;
         unread = read_unread (input_of c) source before after it read;
         count = count;
       }
 
   -- a command that found what it read bad, which is all that the source can tell
-  pub found :
+  found :
       (it : Told (input_of c)) (bad : Bad) → IsRead (input_of c) source before after it → IsFirstBad c it bad
       → out.status ≡ status.HistoryBad bad → out.kept.items ≡ [] → out.ran ≡ None → new ≡ old
-      → IfTold (input_of c) (source.left before) (λ other. it ≡ other) → source.faults before ≤ source.faults after
-      → Promises c source sink before after old new out
-  found it bad read first ends kept none written only count = record {
+      → IfTold (input_of c) (source.left before) (λ other. it ≡ other) → source.faults before ≤ source.faults after → TakesShort c source before after
+      → PromisesDoing c Does output source sink before after old new out
+  found it bad read first ends kept none written only count short = record {
     done = λ told. absurd (true_or_false (is_silent out.status) (ap is_silent ends) told);
     bad = subst (λ (now : Status). IfSome (bad_of now) (λ bad. HasRead (input_of c) source before after (λ it. IsFirstBad c it bad))) (sym ends)
         (it, read, first);
     accepted = told_more (input_of c) (source.left before) (λ other. it ≡ other) Accepted (λ other same. inr (inl (is_bad other same))) only;
     complete = told_more (input_of c) (source.left before) (λ other. it ≡ other) Comes
-        (λ other same quiet wrote. found_complete c other bad out.status out.kept.items (subst (λ it. IsFirstBad c it bad) same first)) only;
+        (λ other same quiet wrote. silent_complete c sink old new out other (output other out.kept.items out.ran) (ap is_silent ends)
+        (found_complete c other bad out.status out.kept.items (subst (λ it. IsFirstBad c it bad) same first))) only;
     ended = record {
       ends = ap (may_end c) ends ∙ found_judges c it bad first;
-      write_fault = λ fault. absurd (bad_is_no_write_fault bad (sym ends ∙ fault));
       silent = λ h. written;
       nothing_kept = λ h. kept;
       nothing_ran = λ h. none;
     };
     refused = subst (λ (now : Status). IfSome (refusal_of now) (λ refused. IfSome (source.left before) (λ bytes. IsFault (input_of c) bytes refused))) (sym ends) tt;
     read_fault = λ fault. absurd (bad_is_no_read_fault bad (sym ends ∙ fault));
+    taken = takes_short (input_of c) (source.left before) (source.left after) ⊥ (out.status ≡ status.Refused too_long) (λ f. f) (λ long. bad_not_long bad (sym ends ∙ long)) short;
     unread = read_unread (input_of c) source before after it read;
     count = count;
   }
@@ -334,11 +409,11 @@ module _ {S K : Type 0} (c : Command) (source : Reader S) (sink : Ghosts K) (bef
           subst (λ (now : Status). IsSomeAnd (bad_of now) (IsFirstBad c other)) (sym ends) (subst (λ it. IsFirstBad c it bad) same first)
 
   -- a command that stopped, and not because of its text if that is one
-  pub stopped :
+  pub stopped_so :
       (s : Stop) → IsStop (input_of c) (source.left before) (source.faults before) (source.faults after) s → StopsAs (input_of c) before after s → HasStopped s old new out
       → IfTold (input_of c) (source.left before) (λ other. IsNoRefusal (stop_status s)) → source.faults before ≤ source.faults after
-      → Promises c source sink before after old new out
-  stopped s is may has free count =
+      → TakesText (input_of c) (source.left before) (source.left after) (s ≡ stop.Refused too_long) → PromisesDoing c Does output source sink before after old new out
+  stopped_so s is may has free count taken =
       let silent : is_silent out.status ≡ true = ap is_silent has.ended ∙ stop_is_silent s in
       let why = subst IsNoRefusal (sym has.ended) in
       record {
@@ -351,22 +426,51 @@ module _ {S K : Type 0} (c : Command) (source : Reader S) (sink : Ghosts K) (bef
         refused = subst (λ (now : Status). IfSome (refusal_of now) (λ refused. IfSome (source.left before) (λ bytes. IsFault (input_of c) bytes refused))) (sym has.ended)
             (stop_refusal (input_of c) (source.left before) (source.faults before) (source.faults after) s is);
         read_fault = λ fault. stop_read_fault (input_of c) (source.left before) (source.faults before) (source.faults after) s is (sym has.ended ∙ fault);
+        taken = takes_as (input_of c) (source.left before) (source.left after) (s ≡ stop.Refused too_long) (out.status ≡ status.Refused too_long)
+            (λ long. has.ended ∙ ap stop_status long) (λ long. stop_long s (sym has.ended ∙ long)) taken;
         unread = stop_unread (input_of c) before after s may;
         count = count;
       }
     where
       comes : (other : Told (input_of c)) → IsNoRefusal out.status → Comes other
       comes other (inl fault) = λ quiet wrote. absurd (quiet (stop_read_fault (input_of c) (source.left before) (source.faults before) (source.faults after) s is (sym has.ended ∙ fault)))
-      comes other (inr want) = λ quiet wrote. want_complete c other out.status out.kept.items want
+      comes other (inr want) = λ quiet wrote. wanting_with c sink old new out other (output other out.kept.items out.ran) want
 
   -- a command that ended before it did its work
+  pub failed_so :
+      (now : Status) → HasFailed (input_of c) source (IsFirstBad c) before after now → out.status ≡ now → ((s : Stop) → StopsAs (input_of c) before after s)
+      → out.kept.items ≡ [] → out.ran ≡ None → new ≡ old → source.faults before ≤ source.faults after
+      → TakesText (input_of c) (source.left before) (source.left after) (now ≡ status.Refused too_long) → PromisesDoing c Does output source sink before after old new out
+  failed_so now has is may kept none unwritten count taken =
+      ⊎_elim
+      (λ why. stopped_so why.why why.stopped (may why.why) (record { ended = is ∙ why.ended; history = kept; no_threads = none; sink = unwritten }) why.no_refusal count
+      (takes_as (input_of c) (source.left before) (source.left after) (now ≡ status.Refused too_long) (why.why ≡ stop.Refused too_long)
+      (λ long. stop_long why.why (sym why.ended ∙ long)) (λ long. why.ended ∙ ap stop_status long) taken))
+      (λ bad. found bad.it bad.bad bad.read bad.first (is ∙ bad.ended) kept none unwritten bad.only count
+      (takes_short (input_of c) (source.left before) (source.left after) (now ≡ status.Refused too_long) ⊥ (λ long. bad_not_long bad.bad (sym bad.ended ∙ long)) (λ f. f) taken)) has
+
+module _ {S K : Type 0} (c : Command) (source : Reader S) (sink : Ghosts K) (before after : S) (old new : K) (out : Outcome) where
+  -- the same for what the commands do
+  pub did :
+      (it : Told (input_of c)) → IsRead (input_of c) source before after it → HasDone c sink it old new out.status out.kept.items out.ran
+      → IfTold (input_of c) (source.left before) (λ other. it ≡ other) → source.faults before ≤ source.faults after → TakesShort c source before after
+      → Promises c source sink before after old new out
+  did it read works only count short =
+      did_so c (HasDone c sink) (whole_output c) source sink before after old new out it read works
+      (done_is_told sink old new out.status out.kept.items out.ran c it works) (did_end c sink old new out it works)
+      (λ other done quiet. did_complete c sink old new out other done quiet) only count short
+
+  pub stopped :
+      (s : Stop) → IsStop (input_of c) (source.left before) (source.faults before) (source.faults after) s → StopsAs (input_of c) before after s → HasStopped s old new out
+      → IfTold (input_of c) (source.left before) (λ other. IsNoRefusal (stop_status s)) → source.faults before ≤ source.faults after
+      → TakesText (input_of c) (source.left before) (source.left after) (s ≡ stop.Refused too_long) → Promises c source sink before after old new out
+  stopped = stopped_so c (HasDone c sink) (whole_output c) source sink before after old new out
+
   pub failed :
       (now : Status) → HasFailed (input_of c) source (IsFirstBad c) before after now → out.status ≡ now → ((s : Stop) → StopsAs (input_of c) before after s)
-      → out.kept.items ≡ [] → out.ran ≡ None → new ≡ old → source.faults before ≤ source.faults after → Promises c source sink before after old new out
-  failed now has is may kept none unwritten count =
-      ⊎_elim
-      (λ why. stopped why.why why.stopped (may why.why) (record { ended = is ∙ why.ended; history = kept; no_threads = none; sink = unwritten }) why.no_refusal count)
-      (λ bad. found bad.it bad.bad bad.read bad.first (is ∙ bad.ended) kept none unwritten bad.only count) has
+      → out.kept.items ≡ [] → out.ran ≡ None → new ≡ old → source.faults before ≤ source.faults after
+      → TakesText (input_of c) (source.left before) (source.left after) (now ≡ status.Refused too_long) → Promises c source sink before after old new out
+  failed = failed_so c (HasDone c sink) (whole_output c) source sink before after old new out
 
 -- ---- reading nothing
 
@@ -381,19 +485,20 @@ module _ {S K : Type 0} (source : Reader S) (sink : Ghosts K) (x : S) (old new :
   wanting c has =
       stopped c source sink x x old new out stop.OutOfMemory tt (stops_for_want (input_of c) x) has
       (told_all (input_of c) (source.left x) (λ it. IsNoRefusal (stop_status stop.OutOfMemory)) (λ it. inr refl)) (omega arith)
+      (takes_nothing (input_of c) (source.left x) (stop.OutOfMemory ≡ stop.Refused too_long) (λ is. cc))
 
   -- commands on generated machines
   pub printed_or_not :
       (n : ℕ) → HasPrinted sink (generated n) old new out.status out.kept.items out.ran ⊎ HasStopped stop.OutOfMemory old new out
       → Promises (command.Gen n) source sink x x old new out
   printed_or_not n =
-      ⊎_elim (λ done. did (command.Gen n) source sink x x old new out tt refl done refl (omega arith)) (wanting (command.Gen n))
+      ⊎_elim (λ done. did (command.Gen n) source sink x x old new out tt refl done refl (omega arith) (takes_nothing nothing (source.left x) ⊥ (λ f. f))) (wanting (command.Gen n))
 
   pub summed_or_not :
       (n : ℕ) → HasSummed n sink (generated n) old new out.status out.kept.items out.ran ⊎ HasStopped stop.OutOfMemory old new out
       → Promises (command.Big n) source sink x x old new out
   summed_or_not n =
-      ⊎_elim (λ done. did (command.Big n) source sink x x old new out tt refl done refl (omega arith)) (wanting (command.Big n))
+      ⊎_elim (λ done. did (command.Big n) source sink x x old new out tt refl done refl (omega arith) (takes_nothing nothing (source.left x) ⊥ (λ f. f))) (wanting (command.Big n))
 
 -- ---- reading a text
 

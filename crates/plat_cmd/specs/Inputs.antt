@@ -1,14 +1,17 @@
 -- what commands read
-use Rattle.std.specs.Prelude.{◌≡◌, ℕ, Bool, true, false, List, Option, IfSome, IsTrue, Ok, Err}
+use Rattle.std.specs.Prelude.{◌≡◌, ℕ, ◌+◌, ◌≤◌, ◌↔◌, Bool, true, false, List, Option, IfSome, IsTrue, Ok, Err}
 use Rattle.plat_base.specs.Machine.{Machine}
-use Rattle.plat_base.specs.Canon.{is_short}
+use Rattle.plat_base.specs.Canon.{is_short, most_bytes}
 use Rattle.plat_grammar.specs.Grammar.{IsMachine, IsTextOf}
 use Rattle.plat_grammar.specs.FirstFault.{text_at}
-use Rattle.plat_grammar.specs.HistoryCanon.{History}
+use Rattle.plat_grammar.specs.Forms.{refused}
+use Rattle.plat_grammar.specs.HistoryCanon.{History, most_history_bytes}
 use Rattle.plat_grammar.specs.HistoryGrammar.{IsHistory, IsHistoryTextOf}
 use Rattle.plat_grammar.specs.HistoryFaults.{history_at}
 use Rattle.plat_base.specs.declared.faults.Refused.{Refused}
+use Rattle.plat_base.specs.declared.faults.Why.TheVariants as why
 use Rattle.plat_io.specs.Streams.{IsAtEnd}
+use Rattle.plat_io.specs.Takes.{TakesCount}
 use Rattle.plat_io.specs.declared.sources.Source.{Ghosts}
 use Rattle.plat_cmd.specs.declared.words.Command.{Command}
 use Rattle.plat_cmd.specs.declared.words.Command.TheVariants as command
@@ -33,6 +36,23 @@ abbrev pub reads_some : Input → Bool
 reads_some machine_text = true
 reads_some history_text = true
 reads_some nothing = false
+
+-- ---- how much is taken of a source
+
+-- the most bytes of a text
+abbrev pub limit_of : Input → ℕ
+limit_of machine_text = most_bytes
+limit_of history_text = most_history_bytes
+limit_of nothing = 0
+
+-- the refusal of a text that is too long: it has no place
+abbrev pub too_long : Refused
+too_long = refused 0 0 why.TooLong
+
+-- at most one byte above the limit was taken, from the front of what the source told, and the text is too long exactly where that
+-- byte was
+abbrev pub TakesText : Input → (told left : Option (List ℕ)) → (IsTooLong : Type 0) → Type 0
+TakesText i told left IsTooLong = (n : ℕ) × TakesCount n told left × (n ≤ limit_of i + 1) × (IsTooLong ↔ (n ≡ limit_of i + 1))
 
 -- ---- what each kind of input tells
 

@@ -4,5 +4,6 @@ pub mod Inputs
 pub mod Races
 pub mod Works
 pub mod Promises
+pub mod Trials
 pub mod Steps
 pub mod Judgings

@@ -1,17 +1,25 @@
 -- what the parts of a command do
 use Rattle.std.specs.Prelude.{◌≡◌, ℕ, List, [], Option, None, IfSome, Result, Ok, Err}
 use Rattle.plat_base.specs.Machine.{Machine}
-use Rattle.plat_base.specs.Schedule.{Scheduled, scheduled, scheduled_turn}
+use Rattle.plat_base.specs.Schedule.{Scheduled}
 use Rattle.plat_base.specs.Verdicts.{policy_answer}
+use Rattle.plat_base.specs.Statuses.{status_of}
+use Rattle.plat_base.specs.declared.endings.Ended.{Ended}
+use Rattle.plat_base.specs.declared.items.Item.{Item}
 use Rattle.plat_base.specs.declared.statuses.Status.{Status}
 use Rattle.plat_base.specs.declared.statuses.Status.TheVariants as status
 use Rattle.plat_io.specs.Streams.{HasRisen}
 use Rattle.plat_io.specs.declared.faults.WriteFault.{WriteFault}
+use Rattle.plat_io.specs.declared.sinks.Sink.{Ghosts}
 use Rattle.plat_coarse.specs.CoarseSeen.{CoarseSeen}
 use Rattle.plat_events.specs.Runs.{ScheduledFine, scheduled_event, scheduled_events}
 use Rattle.plat_fine.specs.FineSeen.{FineSeen}
 use Rattle.plat_sched.specs.ScheduleSeen.{ScheduleSeen}
 use Rattle.plat_cmd.specs.Inputs.{Input, machine_text, history_text, nothing, IsFault}
+use Rattle.plat_table.specs.Closed.{ClosedSeen}
+use Rattle.plat_cmd.specs.Works.{IsWritten, IsOrWriteFault, is_limited, output_of}
+use Rattle.plat_cmd.specs.declared.words.Grain.{Grain}
+use Rattle.plat_cmd.specs.declared.words.Output.{Output}
 use Rattle.plat_cmd.specs.declared.outcomes.Outcome.{Outcome}
 use Rattle.plat_cmd.specs.declared.outcomes.Stop.{Stop}
 use Rattle.plat_cmd.specs.declared.outcomes.Stop.TheVariants as stop
@@ -58,16 +66,8 @@ pub record HasStopped {K : Type 0} (stopped : Stop) (old new : K) (out : Outcome
 -- ---- a coarse run
 
 -- a run and its schedule as they stand, as the definition of the coarse run has them
-abbrev pub standing : CoarseSeen → ScheduleSeen → Scheduled
+abbrev pub standing : {P : Type 0} → CoarseSeen P → ScheduleSeen → Scheduled
 standing k s = record { coarse = k.run; chooser = s.chooser }
-
--- one more turn, by the schedule and the policy of the machine
-abbrev pub own_turn : Machine → Scheduled → Scheduled
-own_turn m x = scheduled_turn m (policy_answer m.policy) x
-
--- the coarse run after so many turns
-abbrev pub after_turns : Machine → ℕ → Scheduled
-after_turns m turns = scheduled m (policy_answer m.policy) turns
 
 -- ---- a run of single operations
 
@@ -89,3 +89,11 @@ after_events m events = scheduled_events m (policy_answer m.policy) events
 abbrev pub status_after : Status → Result (Unit {0}) WriteFault → Status
 status_after complete (Ok _) = complete
 status_after complete (Err _) = status.WriteFault
+
+-- what a run writes of these items and ends was written, and the items were kept
+pub record HasShown {K : Type 0} (g : Grain) (o : Output) (sink : Ghosts K) (m : Machine) (items : List Item) (ends : List Ended)
+    (old new : K) (now : Status) (kept : List Item) (ran : Option ClosedSeen) : Type 0 where
+  pub history : kept ≡ items
+  pub written : IsWritten sink old new now (output_of o m items ends)
+  pub ended : IsOrWriteFault (status_of ends (is_limited g)) now
+  pub no_threads : ran ≡ None

@@ -2,7 +2,7 @@
 use Rattle.std.specs.Prelude.{◌≡◌, ◌≢◌, ◌⊎◌, ℕ, ◌<◌, ◌≤◌, Bool, true, false, List, [], Option, Some, None, IsTrue, Ok, replicate}
 use Rattle.plat_base.specs.Machine.{Machine}
 use Rattle.plat_base.specs.Schedule.{coarse_run}
-use Rattle.plat_base.specs.Verdicts.{policy_answer}
+use Rattle.plat_base.specs.Verdicts.{Answer, policy_answer}
 use Rattle.plat_base.specs.Runs.{IsCoherentRun, IsOver, GuestsEnd}
 use Rattle.plat_base.specs.Histories.{AtEachAccess, IsLegalMemory}
 use Rattle.plat_base.specs.Coherent.{FindsFrameWord}
@@ -70,14 +70,21 @@ pub record HasPrinted {K : Type 0} (sink : Ghosts K) (m : Machine)
 
 -- ---- sim
 
--- the history of the run by whole instructions, or by single operations
+-- the history of the run by whole instructions, or by single operations, under a policy that answers so
+abbrev pub history_under : Grain → Machine → Answer → List Item
+history_under grain.Coarse m answer = (coarse_run m answer).history
+history_under grain.Fine m answer = (fine_run m answer).history
+
+abbrev pub ends_under : Grain → Machine → Answer → List Ended
+ends_under grain.Coarse m answer = (coarse_run m answer).ends
+ends_under grain.Fine m answer = fine_ends m (fine_run m answer).privates
+
+-- the same under the policy that the text of the machine names
 abbrev pub history_of : Grain → Machine → List Item
-history_of grain.Coarse m = (coarse_run m (policy_answer m.policy)).history
-history_of grain.Fine m = (fine_run m (policy_answer m.policy)).history
+history_of g m = history_under g m (policy_answer m.policy)
 
 abbrev pub ends_of : Grain → Machine → List Ended
-ends_of grain.Coarse m = (coarse_run m (policy_answer m.policy)).ends
-ends_of grain.Fine m = fine_ends m (fine_run m (policy_answer m.policy)).privates
+ends_of g m = ends_under g m (policy_answer m.policy)
 
 -- the run ends at a limit of events, whoever is live then
 abbrev pub is_limited : Grain → Bool
@@ -90,30 +97,30 @@ output_of output.Report m items ends = report m items ends
 output_of output.Trace m items ends = history_text (record { machine = m; items = items; ends = ends })
 
 -- what is known of the coarse run alone
-pub record IsWholeRun (m : Machine) (kept : List Item) : Type 0 where
+pub record IsWholeRun (m : Machine) (answer : Answer) (kept : List Item) : Type 0 where
   -- each access finds its value in the frame that it goes to
   pub frames : AtEachAccess kept (FindsFrameWord m)
   -- every processor ended
-  pub over : IsOver m (ends_of grain.Coarse m)
+  pub over : IsOver m (ends_under grain.Coarse m answer)
 
 -- how the run of a grain came to its end: a run of single operations is one of live actors, and an end is cut only where the
 -- most events were made
-abbrev pub IsRunOf : Grain → Machine → List Item → Type 0
-IsRunOf grain.Coarse m kept = IsWholeRun m kept
-IsRunOf grain.Fine m kept = IsRunWithin m (policy_answer m.policy) most_events (fine_run m (policy_answer m.policy))
+abbrev pub IsRunOf : Grain → Machine → Answer → List Item → Type 0
+IsRunOf grain.Coarse m answer kept = IsWholeRun m answer kept
+IsRunOf grain.Fine m answer kept = IsRunWithin m answer most_events (fine_run m answer)
 
--- the run of m of this grain was made and kept, and its output was written
-pub record HasRun {K : Type 0} (g : Grain) (o : Output) (sink : Ghosts K) (m : Machine)
+-- the run of m of this grain under a policy that answers so was made and kept, and its output was written
+pub record HasRun {K : Type 0} (answer : Answer) (g : Grain) (o : Output) (sink : Ghosts K) (m : Machine)
     (old new : K) (now : Status) (kept : List Item) (ran : Option ClosedSeen) : Type 0 where
   -- the history that is kept is that of the run
-  pub history : kept ≡ history_of g m
+  pub history : kept ≡ history_under g m answer
   -- it breaks no rule and is one history of flat memory; nobody is spent, or lacks a frame, without need
-  pub coherent : IsCoherentRun m (policy_answer m.policy) kept (ends_of g m)
-  pub run : IsRunOf g m kept
+  pub coherent : IsCoherentRun m answer kept (ends_under g m answer)
+  pub run : IsRunOf g m answer kept
   -- printed values, final memory and counts are this history's
-  pub written : IsWritten sink old new now (output_of o m kept (ends_of g m))
+  pub written : IsWritten sink old new now (output_of o m kept (ends_under g m answer))
   -- EventLimit where the most events were made and some end is cut, else the status of the ends
-  pub ended : IsOrWriteFault (status_of (ends_of g m) (is_limited g)) now
+  pub ended : IsOrWriteFault (status_of (ends_under g m answer) (is_limited g)) now
   pub no_threads : ran ≡ None
 
 -- ---- run
@@ -214,13 +221,29 @@ pub record HasSummed {K : Type 0} (n : ℕ) (sink : Ghosts K) (m : Machine)
 -- what a command does with what it read
 abbrev pub HasDone : {K : Type 0} (c : Command) → Ghosts K → Told (input_of c) → K → K → Status → List Item → Option ClosedSeen → Type 0
 HasDone command.Check sink m old new now kept ran = HasPrinted sink m old new now kept ran
-HasDone (command.Sim g o) sink m old new now kept ran = HasRun g o sink m old new now kept ran
+HasDone (command.Sim g o) sink m old new now kept ran = HasRun (policy_answer m.policy) g o sink m old new now kept ran
 HasDone (command.Run o) sink m old new now kept ran = HasThreaded o sink m old new now kept ran
 HasDone (command.Gen n) sink it old new now kept ran = HasPrinted sink (generated n) old new now kept ran
 HasDone (command.Big n) sink it old new now kept ran = HasSummed n sink (generated n) old new now kept ran
 HasDone command.Replay sink h old new now kept ran = HasReplayed sink h old new now kept ran
 HasDone command.Race sink h old new now kept ran = HasRaced sink h old new now kept ran
 HasDone command.Cost sink h old new now kept ran = HasCosted sink h old new now kept ran
+
+-- how the processors ended, by what threads left
+abbrev pub ends_left : Option ClosedSeen → List Ended
+ends_left None = []
+ends_left (Some left) = left.ends
+
+-- all that a command writes of what it read, with the history that it kept and what its threads left
+abbrev pub whole_output : (c : Command) → Told (input_of c) → List Item → Option ClosedSeen → List ℕ
+whole_output command.Check m kept ran = canon_text m
+whole_output (command.Sim g o) m kept ran = output_of o m kept (ends_of g m)
+whole_output (command.Run o) m kept ran = output_of o m kept (ends_left ran)
+whole_output (command.Gen n) it kept ran = canon_text (generated n)
+whole_output (command.Big n) it kept ran = summary n (generated n) kept (ends_of grain.Coarse (generated n))
+whole_output command.Replay h kept ran = report h.machine kept h.ends
+whole_output command.Race h kept ran = race_text h.items
+whole_output command.Cost h kept ran = cost_text h.machine h.items
 
 -- what is bad of a history, where the status says it
 abbrev pub bad_of : Status → Option Bad
@@ -262,15 +285,15 @@ ReachesLimit grain.Fine m now = (ends_as end.Cut (ends_of grain.Fine m) ≡ true
 -- what a command comes to where no read and no write fails: to its end, but for want of memory. A run of guests that halt or
 -- trap within the budget, on the values that they get in the history, can come to want of frames too, if there are too few, and
 -- a run of single operations to its limit of events
-abbrev pub IsComplete : (c : Command) → Told (input_of c) → Status → List Item → Type 0
-IsComplete command.Check m now kept = IsDoneWithMemory now
-IsComplete (command.Sim g o) m now kept = GuestsEnd m kept → IsDoneWithMemory now ⊎ LacksFrames m now ⊎ ReachesLimit g m now
-IsComplete (command.Run o) m now kept = GuestsEnd m kept → IsDoneWithMemory now ⊎ LacksFrames m now
-IsComplete (command.Gen n) it now kept = IsDoneWithMemory now
-IsComplete (command.Big n) it now kept = IsDoneWithMemory now
-IsComplete command.Replay h now kept = IsDoneHistory h → IsDoneWithMemory now
-IsComplete command.Race h now kept = first_bad_of h ≡ None → IsDoneWithMemory now
-IsComplete command.Cost h now kept = first_bad_of h ≡ None → IsDoneWithMemory now
+abbrev pub ComesToEnd : (c : Command) → Told (input_of c) → Status → List Item → Type 0
+ComesToEnd command.Check m now kept = IsDoneWithMemory now
+ComesToEnd (command.Sim g o) m now kept = GuestsEnd m kept → IsDoneWithMemory now ⊎ LacksFrames m now ⊎ ReachesLimit g m now
+ComesToEnd (command.Run o) m now kept = GuestsEnd m kept → IsDoneWithMemory now ⊎ LacksFrames m now
+ComesToEnd (command.Gen n) it now kept = IsDoneWithMemory now
+ComesToEnd (command.Big n) it now kept = IsDoneWithMemory now
+ComesToEnd command.Replay h now kept = IsDoneHistory h → IsDoneWithMemory now
+ComesToEnd command.Race h now kept = first_bad_of h ≡ None → IsDoneWithMemory now
+ComesToEnd command.Cost h now kept = first_bad_of h ≡ None → IsDoneWithMemory now
 
 -- a command whose guests may spend their budgets, or lack a frame
 abbrev pub is_run : Command → Bool

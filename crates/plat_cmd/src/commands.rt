@@ -1,6 +1,5 @@
 //! The commands, and the top call.
-ghost use Rattle.std.specs.Prelude.{◌≡◌, IfOk, IfErr};
-ghost use Rattle.plat_base.specs.declared.statuses.Status.TheVariants as statuses;
+ghost use Rattle.std.specs.Prelude.{IfOk, IfErr};
 ghost use Rattle.plat_cmd.specs.Arguments.{texts_of};
 ghost use Rattle.plat_cmd.specs.Commands.{read_of};
 ghost use Rattle.plat_cmd.specs.Promises.{IsBadWords, Promises};
@@ -136,8 +135,6 @@ pub fn platinum<R: Threads + Wait + Sync, S: Source, K: Sink, G: Gate + Sync>(
     // Other words are BadWords, and nothing is read, written or kept.
     ensures bad_words { IfErr (read_of (texts_of words.now))
         (λ _. IsBadWords source.old source.new sink.old sink.new result) }
-    // BadWords comes with nothing read.
-    ensures unread { result.status ≡ statuses.BadWords → source.new ≡ source.old }
 {
     match read_words(alloc, words) {
         Ok(Command::Check) => check(alloc, source, sink),

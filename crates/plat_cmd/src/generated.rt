@@ -4,9 +4,9 @@ ghost use Rattle.plat_base.specs.Seen.{machine};
 ghost use Rattle.plat_base.specs.Statuses.{is_silent};
 ghost use Rattle.plat_flat.specs.FlatSeen.{IsFlatOf};
 ghost use Rattle.plat_gen.specs.Generated.{generated};
-ghost use Rattle.plat_cmd.specs.Promises.{IsEnded, IsQuiet};
+ghost use Rattle.plat_cmd.specs.Promises.{IsComplete, IsEnded, IsQuiet};
 ghost use Rattle.plat_cmd.specs.Steps.{HasStopped};
-ghost use Rattle.plat_cmd.specs.Works.{HasPrinted, HasSummed, IsDoneWithMemory, ends_of, history_of};
+ghost use Rattle.plat_cmd.specs.Works.{HasPrinted, HasSummed, ends_of, history_of};
 ghost use Rattle.plat_cmd.specs.declared.outcomes.Stop.TheVariants as stops;
 ghost use Rattle.plat_cmd.specs.declared.words.Command.TheVariants as commands;
 ghost use Rattle.plat_cmd.specs.declared.words.Grain.TheVariants as grains;
@@ -77,10 +77,10 @@ pub fn print_generated<K: Sink>(alloc: Global, n: u32, sink: &mut K) -> Outcome
     // With a status that lets it write, it wrote the text, or a part of it.
     ensures done { is_silent result.status ≡ false
         → HasPrinted K.Sink (generated n) sink.old sink.new result.status result.kept.items result.ran }
-    // Where no write fails it is done, but for want of memory.
-    ensures complete { IsQuiet (K.faults sink.old) (K.faults sink.new) → IsDoneWithMemory result.status }
+    // Where no write fails it is done, with its whole output, but for want of memory.
+    ensures complete { IsQuiet (K.faults sink.old) (K.faults sink.new)
+        → IsComplete (commands.Gen n) (tt {0}) K.Sink sink.old sink.new result }
     ensures ended { IsEnded (commands.Gen n) K.Sink sink.old sink.new result }
-    ensures nothing_kept { result.kept.items ≡ [] }
 {
     print_nth(alloc, n, sink)
 }
@@ -90,8 +90,9 @@ pub fn big<K: Sink>(alloc: Global, n: u32, sink: &mut K) -> Outcome
     // With a status that lets it write, it made and kept the run, and wrote its summary, or a part of it.
     ensures done { is_silent result.status ≡ false
         → HasSummed n K.Sink (generated n) sink.old sink.new result.status result.kept.items result.ran }
-    // Where no write fails it is done, but for want of memory.
-    ensures complete { IsQuiet (K.faults sink.old) (K.faults sink.new) → IsDoneWithMemory result.status }
+    // Where no write fails it is done, with its whole output, but for want of memory.
+    ensures complete { IsQuiet (K.faults sink.old) (K.faults sink.new)
+        → IsComplete (commands.Big n) (tt {0}) K.Sink sink.old sink.new result }
     ensures ended { IsEnded (commands.Big n) K.Sink sink.old sink.new result }
 {
     sum_nth(alloc, n, sink)

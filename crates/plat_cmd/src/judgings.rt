@@ -1,8 +1,9 @@
 //! Histories that are read and judged, for the commands that do something with a good one.
-ghost use Rattle.std.specs.Prelude.{◌≡◌, ◌≤◌, None, Some, Ok, IfOk, IfErr};
+ghost use Rattle.std.specs.Prelude.{◌≡◌, ◌≤◌, None, Some, Ok, IfOk, IfErr, IsErrOf};
 ghost use Rattle.std.specs.Fn.{FnOnceReturnsAt};
 ghost use Rattle.plat_history.specs.Shown.{seen};
-ghost use Rattle.plat_cmd.specs.Inputs.{IsToldHistory, IfTold, history_text};
+ghost use Rattle.plat_base.specs.declared.statuses.Status.TheVariants as statuses;
+ghost use Rattle.plat_cmd.specs.Inputs.{IsToldHistory, IfTold, TakesText, history_text, too_long};
 ghost use Rattle.plat_cmd.specs.Judgings.{HasFailed, IsNotJudged};
 ghost use Rattle.plat_cmd.specs.Works.{first_bad_of};
 
@@ -67,6 +68,8 @@ pub fn read_judged<S: Source, T: Drop, F: FnOnce(&Config) -> Result<T, OutOfMemo
         (λ it. IfTold history_text (S.left source.old) (λ h. seen it.history ≡ h)) }
     ensures failed { IfErr result
         (HasFailed history_text S.Source (λ h bad. first_bad_of h ≡ Some bad) source.old source.new) }
+    ensures taken { TakesText history_text (S.left source.old) (S.left source.new)
+        (IsErrOf result (statuses.Refused too_long)) }
     ensures count { S.faults source.old ≤ S.faults source.new }
 {
     match read_history_text(alloc, source) {

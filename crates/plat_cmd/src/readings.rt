@@ -1,5 +1,5 @@
 //! What a source tells: a machine, or a history.
-ghost use Rattle.std.specs.Prelude.{◌≡◌, ◌≤◌, IfOk, IfErr, IfSome, OnOk, Ok};
+ghost use Rattle.std.specs.Prelude.{◌≡◌, ◌≤◌, IfOk, IfErr, IfSome, OnOk, Ok, IsErrOf};
 ghost use Rattle.plat_base.specs.Seen.{machine};
 ghost use Rattle.plat_grammar.specs.FirstFault.{text_at};
 ghost use Rattle.plat_grammar.specs.Grammar.{IsTextOf};
@@ -7,8 +7,9 @@ ghost use Rattle.plat_io.specs.Streams.{IsAtEnd};
 ghost use Rattle.plat_grammar.specs.HistoryFaults.{history_at};
 ghost use Rattle.plat_grammar.specs.HistoryGrammar.{IsHistory, IsHistoryTextOf};
 ghost use Rattle.plat_history.specs.Shown.{seen};
-ghost use Rattle.plat_cmd.specs.Inputs.{IfTold, machine_text, history_text};
+ghost use Rattle.plat_cmd.specs.Inputs.{IfTold, TakesText, machine_text, history_text, too_long};
 ghost use Rattle.plat_cmd.specs.Steps.{IsStop, AcceptsAs, read_as};
+ghost use Rattle.plat_cmd.specs.declared.outcomes.Stop.TheVariants as stops;
 
 use crate::outcomes::Stop;
 use plat_base::{Config, Refused, TextFault, Why};
@@ -27,6 +28,8 @@ pub fn read_machine<S: Source>(alloc: Global, source: &mut S) -> Result<Config, 
     ensures only { IfTold machine_text (S.left source.old) (λ m. AcceptsAs m (read_as machine result)) }
     ensures stopped { IfErr result
         (IsStop machine_text (S.left source.old) (S.faults source.old) (S.faults source.new)) }
+    ensures taken { TakesText machine_text (S.left source.old) (S.left source.new)
+        (IsErrOf result (stops.Refused too_long)) }
 {
     match read_all(alloc, source, 1_048_576) {
         Ok(bytes) => match parse(alloc, bytes.as_slice()) {
@@ -54,6 +57,8 @@ pub fn read_history_text<S: Source>(alloc: Global, source: &mut S) -> Result<His
     ensures only { IfTold history_text (S.left source.old) (λ h. AcceptsAs h (read_as seen result)) }
     ensures stopped { IfErr result
         (IsStop history_text (S.left source.old) (S.faults source.old) (S.faults source.new)) }
+    ensures taken { TakesText history_text (S.left source.old) (S.left source.new)
+        (IsErrOf result (stops.Refused too_long)) }
 {
     match read_all(alloc, source, 268_435_456) {
         Ok(bytes) => match read_history(alloc, bytes.as_slice()) {

@@ -1,11 +1,13 @@
 //! Simulations: the run of a machine, and its report.
 ghost use Rattle.std.specs.Prelude.{◌≡◌, ◌⊎◌, [], Ok, IfOk};
 ghost use Rattle.plat_base.specs.Machine.{Machine};
+ghost use Rattle.plat_base.specs.Rules.{Good};
 ghost use Rattle.plat_base.specs.Seen.{machine};
+ghost use Rattle.plat_base.specs.Verdicts.{Answer, policy_answer};
 ghost use Rattle.plat_base.specs.declared.statuses.Status.TheVariants as statuses;
 ghost use Rattle.plat_flat.specs.FlatSeen.{IsFlatOf};
 ghost use Rattle.plat_cmd.specs.Works.{HasRun, history_of, ends_of};
-ghost use Rattle.plat_cmd.specs.Steps.{HasStopped};
+ghost use Rattle.plat_cmd.specs.Steps.{HasShown, HasStopped};
 ghost use Rattle.plat_cmd.specs.declared.outcomes.Stop.TheVariants as stops;
 ghost use Rattle.plat_cmd.specs.declared.words.Output.TheVariants as outputs;
 
@@ -36,13 +38,14 @@ pub fn make(alloc: Global, grain: Grain, cfg: Config) -> Result<Made, OutOfMemor
     Ok(Made { finished, tally })
 }
 
-/// Writes the report of a run.
-fn reported<K: Sink>(grain: Grain, made: Made, sink: &mut K) -> Outcome
-    requires items { made.finished.items.items ≡ history_of grain (machine made.finished.cfg) }
-    requires ends { made.finished.ends.items ≡ ends_of grain (machine made.finished.cfg) }
+/// Writes the report of a run that is good under some policy.
+pub fn reported<K: Sink>(grain: Grain, made: Made, sink: &mut K) -> Outcome
+    requires good { let m = machine made.finished.cfg
+        in (answer : Answer) × Good m answer made.finished.items.items made.finished.ends.items }
     requires tally { IsFlatOf (machine made.finished.cfg) [] made.tally }
     ensures { let m = machine made.finished.cfg
-        in HasRun grain outputs.Report K.Sink m sink.old sink.new result.status result.kept.items result.ran }
+        in HasShown grain outputs.Report K.Sink m made.finished.items.items made.finished.ends.items
+        sink.old sink.new result.status result.kept.items result.ran }
 {
     let Made { finished, tally } = made;
     let written = report(
@@ -62,8 +65,8 @@ fn reported<K: Sink>(grain: Grain, made: Made, sink: &mut K) -> Outcome
 
 /// Makes the run of a machine and writes its report.
 pub fn simulate<K: Sink>(alloc: Global, grain: Grain, cfg: Config, sink: &mut K) -> Outcome
-    ensures { HasRun grain outputs.Report K.Sink (machine cfg) sink.old sink.new
-        result.status result.kept.items result.ran
+    ensures { HasRun (policy_answer (machine cfg).policy) grain outputs.Report K.Sink (machine cfg)
+        sink.old sink.new result.status result.kept.items result.ran
         ⊎ HasStopped stops.OutOfMemory sink.old sink.new result }
 {
     match make(alloc, grain, cfg) {

@@ -1,8 +1,9 @@
 //! Traces: the run of a machine, and its history text.
 ghost use Rattle.std.specs.Prelude.{◌≡◌, ◌⊎◌};
 ghost use Rattle.plat_base.specs.Seen.{machine};
-ghost use Rattle.plat_cmd.specs.Works.{HasRun, history_of, ends_of};
-ghost use Rattle.plat_cmd.specs.Steps.{HasStopped};
+ghost use Rattle.plat_base.specs.Verdicts.{policy_answer};
+ghost use Rattle.plat_cmd.specs.Works.{HasRun};
+ghost use Rattle.plat_cmd.specs.Steps.{HasShown, HasStopped};
 ghost use Rattle.plat_cmd.specs.declared.outcomes.Stop.TheVariants as stops;
 ghost use Rattle.plat_cmd.specs.declared.words.Output.TheVariants as outputs;
 
@@ -15,11 +16,10 @@ use plat_io::Sink;
 use std::alloc::Global;
 
 /// Writes the history text of a run.
-fn traced<K: Sink>(grain: Grain, finished: Finished, sink: &mut K) -> Outcome
-    requires items { finished.items.items ≡ history_of grain (machine finished.cfg) }
-    requires ends { finished.ends.items ≡ ends_of grain (machine finished.cfg) }
+pub fn traced<K: Sink>(grain: Grain, finished: Finished, sink: &mut K) -> Outcome
     ensures { let m = machine finished.cfg
-        in HasRun grain outputs.Trace K.Sink m sink.old sink.new result.status result.kept.items result.ran }
+        in HasShown grain outputs.Trace K.Sink m finished.items.items finished.ends.items
+        sink.old sink.new result.status result.kept.items result.ran }
 {
     let written = print_items(
         &finished.cfg,
@@ -37,8 +37,8 @@ fn traced<K: Sink>(grain: Grain, finished: Finished, sink: &mut K) -> Outcome
 
 /// Makes the run of a machine and writes its history text.
 pub fn trace<K: Sink>(alloc: Global, grain: Grain, cfg: Config, sink: &mut K) -> Outcome
-    ensures { HasRun grain outputs.Trace K.Sink (machine cfg) sink.old sink.new
-        result.status result.kept.items result.ran
+    ensures { HasRun (policy_answer (machine cfg).policy) grain outputs.Trace K.Sink (machine cfg)
+        sink.old sink.new result.status result.kept.items result.ran
         ⊎ HasStopped stops.OutOfMemory sink.old sink.new result }
 {
     match run(alloc, grain, cfg) {

@@ -9,7 +9,7 @@ use Rattle.plat_base.specs.Directories.{dir_of}
 use Rattle.plat_base.specs.Decide.{is_dir}
 use Rattle.plat_base.specs.Coarse.{Coarse}
 use Rattle.plat_base.specs.Turns.{thaw, daemon, is_pass}
-use Rattle.plat_base.specs.Verdicts.{Answer, policy_answer}
+use Rattle.plat_base.specs.Verdicts.{Answer}
 use Rattle.plat_base.specs.declared.endings.Ended.{Ended}
 use Rattle.plat_chronicle.specs.Chronicle.{Chronicled}
 use Rattle.plat_coarse.specs.Running.{state_of}
@@ -50,41 +50,41 @@ thawed_below-length m answer now s page pass inside =
 -- ---- the engine between two pages of a pass
 
 -- the chronicle of a run whose pages below this one are thawed
-pub record IsThawed (old now : Chronicled) (ends : List Ended) (tick page : ℕ) : Type 0 where
+pub record IsThawed (old now : Chronicled) (answer : Answer) (ends : List Ended) (tick page : ℕ) : Type 0 where
   pub machine : now.machine ≡ old.machine
-  pub state : state_of now ends ≡ thawed_below old.machine (policy_answer old.machine.policy) tick (state_of old ends) page
+  pub state : state_of now ends ≡ thawed_below old.machine answer tick (state_of old ends) page
 
-pub IsThawed-dir : (old now : Chronicled) (ends : List Ended) (tick page : ℕ) → IsThawed old now ends tick page
-    → Sound old.machine (policy_answer old.machine.policy) (state_of old ends) → is_pass old.machine.policy tick ≡ true
+pub IsThawed-dir : (old now : Chronicled) (answer : Answer) (ends : List Ended) (tick page : ℕ) → IsThawed old now answer ends tick page
+    → Sound old.machine answer (state_of old ends) → is_pass old.machine.policy tick ≡ true
     → page < old.machine.pages → is_dir now.machine (dir_of now.items page) ≡ true
-IsThawed-dir old now ends tick page is sound pass inside =
+IsThawed-dir old now answer ends tick page is sound pass inside =
     let P : Machine → Type 0 = λ m. is_dir m (dir_of now.items page) ≡ true in
     let Q : Coarse → Type 0 = λ s. is_dir old.machine (dir_of s.history page) ≡ true in
     subst P (sym is.machine)
-    (subst Q (sym is.state) (thawed_below-dir old.machine (policy_answer old.machine.policy) tick (state_of old ends) page sound pass inside))
+    (subst Q (sym is.state) (thawed_below-dir old.machine answer tick (state_of old ends) page sound pass inside))
 
-pub IsThawed-length : (old now : Chronicled) (ends : List Ended) (tick page : ℕ) → IsThawed old now ends tick page
+pub IsThawed-length : (old now : Chronicled) (answer : Answer) (ends : List Ended) (tick page : ℕ) → IsThawed old now answer ends tick page
     → is_pass old.machine.policy tick ≡ true → page < old.machine.pages
-    → length (thaw now.machine (policy_answer now.machine.policy) tick (state_of now ends) page).history
-    ≤ length (daemon old.machine (policy_answer old.machine.policy) tick (state_of old ends)).history
-IsThawed-length old now ends tick page is pass inside =
-    let most = length (daemon old.machine (policy_answer old.machine.policy) tick (state_of old ends)).history in
-    let P : Machine → Type 0 = λ m. length (thaw m (policy_answer m.policy) tick (state_of now ends) page).history ≤ most in
-    let Q : Coarse → Type 0 = λ s. length (thaw old.machine (policy_answer old.machine.policy) tick s page).history ≤ most in
+    → length (thaw now.machine answer tick (state_of now ends) page).history
+    ≤ length (daemon old.machine answer tick (state_of old ends)).history
+IsThawed-length old now answer ends tick page is pass inside =
+    let most = length (daemon old.machine answer tick (state_of old ends)).history in
+    let P : Machine → Type 0 = λ m. length (thaw m answer tick (state_of now ends) page).history ≤ most in
+    let Q : Coarse → Type 0 = λ s. length (thaw old.machine answer tick s page).history ≤ most in
     subst P (sym is.machine)
-    (subst Q (sym is.state) (thawed_below-length old.machine (policy_answer old.machine.policy) tick (state_of old ends) page pass inside))
+    (subst Q (sym is.state) (thawed_below-length old.machine answer tick (state_of old ends) page pass inside))
 
-pub IsThawed-more : (old now next : Chronicled) (ends : List Ended) (tick page : ℕ) → IsThawed old now ends tick page
+pub IsThawed-more : (old now next : Chronicled) (answer : Answer) (ends : List Ended) (tick page : ℕ) → IsThawed old now answer ends tick page
     → next.machine ≡ now.machine
-    → state_of next ends ≡ thaw now.machine (policy_answer now.machine.policy) tick (state_of now ends) page
-    → IsThawed old next ends tick (page + 1)
-IsThawed-more old now next ends tick page is machine state = record {
+    → state_of next ends ≡ thaw now.machine answer tick (state_of now ends) page
+    → IsThawed old next answer ends tick (page + 1)
+IsThawed-more old now next answer ends tick page is machine state = record {
   machine = machine ∙ is.machine;
   state =
-      let P : Machine → Type 0 = λ m. state_of next ends ≡ thaw m (policy_answer m.policy) tick (state_of now ends) page in
-      let Q : Coarse → Type 0 = λ s. state_of next ends ≡ thaw old.machine (policy_answer old.machine.policy) tick s page in
+      let P : Machine → Type 0 = λ m. state_of next ends ≡ thaw m answer tick (state_of now ends) page in
+      let Q : Coarse → Type 0 = λ s. state_of next ends ≡ thaw old.machine answer tick s page in
       subst Q is.state (subst P is.machine state)
-      ∙ sym (thawed_below-more old.machine (policy_answer old.machine.policy) tick (state_of old ends) page);
+      ∙ sym (thawed_below-more old.machine answer tick (state_of old ends) page);
 }
 
 -- the tick of a pass, as the code tests it

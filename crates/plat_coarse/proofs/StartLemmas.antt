@@ -8,7 +8,7 @@ use Rattle.plat_base.specs.GuestRun.{guest_start}
 use Rattle.plat_base.specs.Ends.{cut_at, is_live, time_of}
 use Rattle.plat_base.specs.Coarse.{Coarse, coarse_start}
 use Rattle.plat_base.specs.Turns.{guest_now}
-use Rattle.plat_base.specs.Verdicts.{policy_answer}
+use Rattle.plat_base.specs.Verdicts.{Answer}
 use Rattle.plat_base.specs.declared.endings.Ended.{Ended}
 use Rattle.plat_guest.specs.GuestSeen.{GuestSeen, new_guest}
 use Rattle.plat_laws.specs.Guests.{IsWithinLimits}
@@ -28,13 +28,13 @@ guest_now-start m q inside = rw (get_or-replicate m.nodes q (cut_at 0) (cut_at 0
 pub start_is : (m : Machine) (k : Chronicled) (ends : List Ended) → k.items ≡ [] → ends ≡ replicate m.nodes (cut_at 0) → state_of k ends ≡ coarse_start m
 start_is m k ends none cut = ap (λ is. record { history = is; ends = ends }) none ∙ ap (λ es. record { history = []; ends = es }) cut
 
-starts : (m : Machine) (k : Chronicled) (ends : List Ended) (guests : List GuestSeen) → IsWithinLimits m → k.machine ≡ m → k.items ≡ []
+starts : (m : Machine) (k : Chronicled) (answer : Answer) (ends : List Ended) (guests : List GuestSeen) → IsWithinLimits m → k.machine ≡ m → k.items ≡ []
     → room m ≤ k.spare → ends ≡ replicate m.nodes (cut_at 0) → length guests ≡ m.nodes
     → ((q : ℕ) → q < m.nodes → slice_index_or guests q no_guest ≡ new_guest m q)
-    → RunsOn (record { machine = m; items = k.items; spare = k.spare }) ends guests 0
-starts m k ends guests machine same none spare cut count each = record {
+    → RunsOn (record { machine = m; items = k.items; spare = k.spare }) answer ends guests 0
+starts m k answer ends guests machine same none spare cut count each = record {
   machine = machine;
-  sound = subst (λ (s : Coarse). Sound m (policy_answer m.policy) s) (sym (start_is m k ends none cut)) (sound_start m (policy_answer m.policy) machine);
+  sound = subst (λ (s : Coarse). Sound m answer s) (sym (start_is m k ends none cut)) (sound_start m answer machine);
   roomy = subst (λ (s : Coarse). IsRoomy m s) (sym (start_is m k ends none cut)) (roomy_start m);
   time = sym (ap time_of cut ∙ (sum_by-replicate (λ (x : Ended). x.turns) m.nodes (cut_at 0) ∙ omega arith));
   guests = count;
@@ -47,9 +47,9 @@ starts m k ends guests machine same none spare cut count each = record {
   room = omega (arith, spare);
 }
 
-pub RunsOn-start : (m : Machine) (k : Chronicled) (ends : List Ended) (guests : List GuestSeen) → IsWithinLimits m → k.machine ≡ m → k.items ≡ []
+pub RunsOn-start : (m : Machine) (k : Chronicled) (answer : Answer) (ends : List Ended) (guests : List GuestSeen) → IsWithinLimits m → k.machine ≡ m → k.items ≡ []
     → room m ≤ k.spare → ends ≡ replicate m.nodes (cut_at 0) → length guests ≡ m.nodes
-    → ((q : ℕ) → q < m.nodes → slice_index_or guests q no_guest ≡ new_guest m q) → RunsOn k ends guests 0
-RunsOn-start m k ends guests machine same none spare cut count each =
-    subst (λ (x : Machine). RunsOn (record { machine = x; items = k.items; spare = k.spare }) ends guests 0) (sym same)
-    (starts m k ends guests machine same none spare cut count each)
+    → ((q : ℕ) → q < m.nodes → slice_index_or guests q no_guest ≡ new_guest m q) → RunsOn k answer ends guests 0
+RunsOn-start m k answer ends guests machine same none spare cut count each =
+    subst (λ (x : Machine). RunsOn (record { machine = x; items = k.items; spare = k.spare }) answer ends guests 0) (sym same)
+    (starts m k answer ends guests machine same none spare cut count each)

@@ -10,3 +10,8 @@ pub two_guests :
     (none one two : List GuestText) (a b : GuestText) (p q : Program) → none ≡ [] → one ≡ none ++ a ∷ [] → two ≡ one ++ b ∷ []
     → program_seen a ≡ p → program_seen b ≡ q → programs_seen two ≡ p ∷ q ∷ []
 two_guests none one two a b p q e f g h k = rw (g, f, e, h, k) refl
+
+pub three_guests :
+    (none one two three : List GuestText) (a b c : GuestText) (p q r : Program) → none ≡ [] → one ≡ none ++ a ∷ [] → two ≡ one ++ b ∷ []
+    → three ≡ two ++ c ∷ [] → program_seen a ≡ p → program_seen b ≡ q → program_seen c ≡ r → programs_seen three ≡ p ∷ q ∷ r ∷ []
+three_guests none one two three a b c p q r e f g h i j k = rw (h, g, f, e, i, j, k) refl

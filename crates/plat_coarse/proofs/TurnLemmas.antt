@@ -9,7 +9,7 @@ use Rattle.plat_base.specs.GuestRun.{GuestRun, want_of, guest_after}
 use Rattle.plat_base.specs.Ends.{is_live, ended_of, time_of, end_after}
 use Rattle.plat_base.specs.Coarse.{Coarse}
 use Rattle.plat_base.specs.Turns.{Made, guest_now, made_by, with_made, turn, daemon}
-use Rattle.plat_base.specs.Verdicts.{policy_answer}
+use Rattle.plat_base.specs.Verdicts.{Answer}
 use Rattle.plat_base.specs.declared.guests.Want.{Want}
 use Rattle.plat_base.specs.declared.endings.End.{End}
 use Rattle.plat_base.specs.declared.endings.End.TheVariants as end
@@ -50,7 +50,7 @@ goes_on m turns end.Cut h = refl
 pub settled_length : (ends ends_now : List Ended) (q : ℕ) (e : Ended) → ends_now ≡ slice_set ends q e → length ends_now ≡ length ends
 settled_length ends ends_now q e is = ap length is ∙ length-set ends q e
 
-module _ (k : Chronicled) (ends : List Ended) (guests : List GuestSeen) (t q : ℕ) (runs : RunsOn k ends guests t) (live : is_live ends q ≡ true) where
+module _ (k : Chronicled) (answer : Answer) (ends : List Ended) (guests : List GuestSeen) (t q : ℕ) (runs : RunsOn k answer ends guests t) (live : is_live ends q ≡ true) where
   abbrev pub run_now : Coarse
   run_now = state_of k ends
 
@@ -58,10 +58,10 @@ module _ (k : Chronicled) (ends : List Ended) (guests : List GuestSeen) (t q : �
   want_now = want_of k.machine q (guest_now k.machine run_now q).state
 
   abbrev pub made_now : Made
-  made_now = made_by k.machine (policy_answer k.machine.policy) run_now q (t + 1) want_now
+  made_now = made_by k.machine answer run_now q (t + 1) want_now
 
-  made_now-in : made_now ≡ made_in k.machine (policy_answer k.machine.policy) run_now q
-  made_now-in = ap (λ (now : ℕ). made_by k.machine (policy_answer k.machine.policy) run_now q (now + 1) want_now) runs.time
+  made_now-in : made_now ≡ made_in k.machine answer run_now q
+  made_now-in = ap (λ (now : ℕ). made_by k.machine answer run_now q (now + 1) want_now) runs.time
 
   pub node_below : q < k.machine.nodes
   node_below = omega (arith, is_live-below ends q live, runs.sound.count)
@@ -87,17 +87,17 @@ module _ (k : Chronicled) (ends : List Ended) (guests : List GuestSeen) (t q : �
   -- ---- room
 
   abbrev pub turned : Coarse
-  turned = turn k.machine (policy_answer k.machine.policy) run_now q
+  turned = turn k.machine answer run_now q
 
-  turned_room : length (turn k.machine (policy_answer k.machine.policy) run_now q).history ≤ room k.machine
-  turned_room = turn_room k.machine (policy_answer k.machine.policy) run_now q runs.machine runs.sound runs.roomy live
+  turned_room : length (turn k.machine answer run_now q).history ≤ room k.machine
+  turned_room = turn_room k.machine answer run_now q runs.machine runs.sound runs.roomy live
 
   made_length : length k.items + length made_now.items ≤ room k.machine
   made_length =
-      let longer = daemon-longer k.machine (policy_answer k.machine.policy) (time_of ends + 1)
-      (with_made k.machine run_now q (made_in k.machine (policy_answer k.machine.policy) run_now q)) in
+      let longer = daemon-longer k.machine answer (time_of ends + 1)
+      (with_made k.machine run_now q (made_in k.machine answer run_now q)) in
       let same = ap (λ (x : Made). length x.items) made_now-in in
-      omega (arith, longer, turned_room, same, length-append k.items (made_in k.machine (policy_answer k.machine.policy) run_now q).items)
+      omega (arith, longer, turned_room, same, length-append k.items (made_in k.machine answer run_now q).items)
 
   pub made_spare : length made_now.items ≤ k.spare
   made_spare = omega (arith, made_length, runs.room)
@@ -118,25 +118,25 @@ module _ (k : Chronicled) (ends : List Ended) (guests : List GuestSeen) (t q : �
     state_made =
         ap (λ is. record { history = is; ends = ends_now }) items ∙ ap (λ es. record { history = k.items ++ made_now.items; ends = es }) ends_are
 
-    pub made_is_sound : Sound next.machine (policy_answer next.machine.policy) (state_of next ends_now)
+    pub made_is_sound : Sound next.machine answer (state_of next ends_now)
     made_is_sound =
-        let P : Machine → Type 0 = λ m. Sound m (policy_answer m.policy) (state_of next ends_now) in
-        let Q : Coarse → Type 0 = λ s. Sound k.machine (policy_answer k.machine.policy) s in
+        let P : Machine → Type 0 = λ m. Sound m answer (state_of next ends_now) in
+        let Q : Coarse → Type 0 = λ s. Sound k.machine answer s in
         subst P (sym machine)
-        (subst Q (sym state_made) (with_made_sound k.machine (policy_answer k.machine.policy) run_now q (t + 1) runs.machine runs.sound live))
+        (subst Q (sym state_made) (with_made_sound k.machine answer run_now q (t + 1) runs.machine runs.sound live))
 
-    pub passed_is : daemon next.machine (policy_answer next.machine.policy) (t + 1) (state_of next ends_now) ≡ turn k.machine (policy_answer k.machine.policy) run_now q
+    pub passed_is : daemon next.machine answer (t + 1) (state_of next ends_now) ≡ turn k.machine answer run_now q
     passed_is =
-        ap (λ (m : Machine). daemon m (policy_answer m.policy) (t + 1) (state_of next ends_now)) machine
-        ∙ (ap (daemon k.machine (policy_answer k.machine.policy) (t + 1)) state_made
-        ∙ ap (λ (tick : ℕ). daemon k.machine (policy_answer k.machine.policy) (tick + 1) (with_made k.machine run_now q (made_by k.machine (policy_answer k.machine.policy) run_now q (tick + 1) want_now))) runs.time)
+        ap (λ (m : Machine). daemon m answer (t + 1) (state_of next ends_now)) machine
+        ∙ (ap (daemon k.machine answer (t + 1)) state_made
+        ∙ ap (λ (tick : ℕ). daemon k.machine answer (tick + 1) (with_made k.machine run_now q (made_by k.machine answer run_now q (tick + 1) want_now))) runs.time)
 
-    pub passed_length : length (daemon next.machine (policy_answer next.machine.policy) (t + 1) (state_of next ends_now)).history ≤ length next.items + next.spare
+    pub passed_length : length (daemon next.machine answer (t + 1) (state_of next ends_now)).history ≤ length next.items + next.spare
     passed_length =
         let same = ap (λ (s : Coarse). length s.history) passed_is in
         omega (arith, same, turned_room, runs.room, ap length items, length-append k.items made_now.items, spare)
 
-    pub passed_few : length (daemon next.machine (policy_answer next.machine.policy) (t + 1) (state_of next ends_now)).history ≤ 2621440
+    pub passed_few : length (daemon next.machine answer (t + 1) (state_of next ends_now)).history ≤ 2621440
     passed_few =
         let same = ap (λ (s : Coarse). length s.history) passed_is in
         omega (arith, same, turned_room, room-most k.machine runs.machine)
@@ -177,12 +177,12 @@ module _ (k : Chronicled) (ends : List Ended) (guests : List GuestSeen) (t q : �
 
   after_is_live : (r : ℕ) → is_live turned.ends r ≡ true → is_live ends r ≡ true
   after_is_live r h =
-      let as_set = ap (λ es. is_live es r) (turn-ends k.machine (policy_answer k.machine.policy) run_now q) in
+      let as_set = ap (λ es. is_live es r) (turn-ends k.machine answer run_now q) in
       is_live-set_before ends q r _ live (sym as_set ∙ h)
 
-  own_goes : is_live turned.ends q ≡ true → (made_in k.machine (policy_answer k.machine.policy) run_now q).end ≡ end.Cut
+  own_goes : is_live turned.ends q ≡ true → (made_in k.machine answer run_now q).end ≡ end.Cut
   own_goes h =
-      let as_set = ap (λ es. is_live es q) (turn-ends k.machine (policy_answer k.machine.policy) run_now q) in
+      let as_set = ap (λ es. is_live es q) (turn-ends k.machine answer run_now q) in
       let is = is_live-set_same ends q _ (is_live-below ends q live) in
       goes_on k.machine ((ended_of ends q).turns + 1) _ (sym is ∙ (sym as_set ∙ h))
 
@@ -193,7 +193,7 @@ module _ (k : Chronicled) (ends : List Ended) (guests : List GuestSeen) (t q : �
         (let h' = subst (λ (x : ℕ). is_live turned.ends x ≡ true) same h in
         let goes = own_goes h' in
         let cut : acted.end ≡ end.Cut = how ∙ (ap (λ (x : Made). x.end) made_now-in ∙ goes) in
-        let own = guest_now-own k.machine (policy_answer k.machine.policy) run_now q (is_live-below ends q live) (runs.sound.guest q live) goes in
+        let own = guest_now-own k.machine answer run_now q (is_live-below ends q live) (runs.sound.guest q live) goes in
         let was = ap (λ (g : GuestSeen). g.state) (guests_own acted cut) in
         let node = runs.nodes q node_below in
         let state = runs.states q live in
@@ -205,21 +205,20 @@ module _ (k : Chronicled) (ends : List Ended) (guests : List GuestSeen) (t q : �
     | inr differ ↦
         ap (λ (g : GuestSeen). g.state) (guests_other acted r differ)
         ∙ (runs.states r (after_is_live r h)
-        ∙ sym (ap (λ (x : GuestRun). x.state) (guest_now-other k.machine (policy_answer k.machine.policy) run_now q r (λ e. differ (sym e)))))
+        ∙ sym (ap (λ (x : GuestRun). x.state) (guest_now-other k.machine answer run_now q r (λ e. differ (sym e)))))
   ]
 
   -- what the engine keeps after the turn
   pub RunsOn-turn : (acted : Acted) (last : Chronicled) (ends_now : List Ended) → last.machine ≡ k.machine → acted.end ≡ made_now.end
-      → acted.value ≡ value_found k.machine k.items want_now → state_of last ends_now ≡ turn k.machine (policy_answer k.machine.policy) run_now q
-      → last.spare + length last.items ≡ k.spare + length k.items → RunsOn last ends_now (guests_after k.machine guests q acted) (t + 1)
+      → acted.value ≡ value_found k.machine k.items want_now → state_of last ends_now ≡ turn k.machine answer run_now q
+      → last.spare + length last.items ≡ k.spare + length k.items → RunsOn last answer ends_now (guests_after k.machine guests q acted) (t + 1)
   RunsOn-turn acted last ends_now machine how found state spare =
-      let answer = policy_answer k.machine.policy in
       let back = sym machine in
       let ends_is : ends_now ≡ turned.ends = ap (λ (s : Coarse). s.ends) state in
       record {
         machine = subst (λ (m : Machine). IsWithinLimits m) back runs.machine;
         sound =
-            subst (λ (m : Machine). Sound m (policy_answer m.policy) (state_of last ends_now)) back
+            subst (λ (m : Machine). Sound m answer (state_of last ends_now)) back
             (subst (λ (s : Coarse). Sound k.machine answer s) (sym state) (turn_sound k.machine answer run_now q runs.machine runs.sound live));
         roomy =
             subst (λ (m : Machine). IsRoomy m (state_of last ends_now)) back
@@ -245,7 +244,7 @@ module _ (k : Chronicled) (ends : List Ended) (guests : List GuestSeen) (t q : �
   wants m g w same is reads = reads ∙ (ap (λ (x : Machine). wanted_by x g) same ∙ guest_wants g is)
 
   abbrev pub made_at : List Ended → Want → Made
-  made_at es w = made_by k.machine (policy_answer k.machine.policy) (state_of k es) q (t + 1) w
+  made_at es w = made_by k.machine answer (state_of k es) q (t + 1) w
 
   pub made_at-now : (es : List Ended) (w : Want) → es ≡ ends → w ≡ want_now → made_at es w ≡ made_now
   made_at-now es w same is = ap (λ (x : List Ended). made_at x w) same ∙ ap (λ (x : Want). made_at ends x) is

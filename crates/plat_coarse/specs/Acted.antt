@@ -7,7 +7,7 @@ use Rattle.plat_base.specs.Done.{reads_word}
 use Rattle.plat_base.specs.Flat.{flat_value}
 use Rattle.plat_base.specs.Held.{held}
 use Rattle.plat_base.specs.Turns.{Made, access_made}
-use Rattle.plat_base.specs.Verdicts.{policy_answer}
+use Rattle.plat_base.specs.Verdicts.{Answer}
 use Rattle.plat_base.specs.declared.guests.Want.{Want}
 use Rattle.plat_base.specs.declared.guests.Want.TheVariants as want
 use Rattle.plat_base.specs.declared.endings.End.{End}
@@ -39,9 +39,9 @@ IsReachable m want.Halted = Unit {0}
 IsReachable m want.Trap = Unit {0}
 
 -- what an access through an entry makes
-abbrev pub made_through : Chronicled → List Ended → (q now entry : ℕ) → Reached → Made
-made_through chronicle ends q now entry reach =
-    access_made chronicle.machine (policy_answer chronicle.machine.policy) (state_of chronicle ends) q now entry (reach_seen reach)
+abbrev pub made_through : Chronicled → Answer → List Ended → (q now entry : ℕ) → Reached → Made
+made_through chronicle answer ends q now entry reach =
+    access_made chronicle.machine answer (state_of chronicle ends) q now entry (reach_seen reach)
     (held chronicle.machine chronicle.items q entry)
 
 -- a processor whose guest goes on is spent once it has made the budget

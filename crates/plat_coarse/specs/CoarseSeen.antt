@@ -4,7 +4,7 @@ use Rattle.plat_base.specs.Machine.{Machine}
 use Rattle.plat_base.specs.Ends.{is_live, time_of}
 use Rattle.plat_base.specs.Coarse.{Coarse}
 use Rattle.plat_base.specs.Turns.{guest_now}
-use Rattle.plat_base.specs.Verdicts.{policy_answer}
+use Rattle.plat_base.specs.Verdicts.{Answer}
 use Rattle.plat_base.specs.declared.endings.End.{End}
 use Rattle.plat_base.specs.declared.endings.End.TheVariants as end
 use Rattle.plat_base.specs.declared.endings.Ended.{Ended}
@@ -18,15 +18,16 @@ use Rattle.plat_coarse.specs.Running.{state_of}
 use Rattle.plat_coarse.specs.declared.turns.Turned.{Turned}
 use Rattle.plat_coarse.specs.declared.turns.Turned.TheVariants.{Ran, Ended as HasEnded}
 
--- a machine, and its run so far
-pub record CoarseSeen : Type 0 where
+-- a machine, the policy that its faults ask, and its run so far
+pub record CoarseSeen (P : Type 0) : Type 0 where
   pub machine : Machine
+  pub policy : P
   pub run : Coarse
 
--- what the engine keeps beside the history
-pub record RunsOn (chronicle : Chronicled) (ends : List Ended) (states_now : List GuestSeen) (ticks : ℕ) : Type 0 where
+-- what the engine keeps beside the history, under a policy with this answer
+pub record RunsOn (chronicle : Chronicled) (answer : Answer) (ends : List Ended) (states_now : List GuestSeen) (ticks : ℕ) : Type 0 where
   pub machine : IsWithinLimits chronicle.machine
-  pub sound : Sound chronicle.machine (policy_answer chronicle.machine.policy) (state_of chronicle ends)
+  pub sound : Sound chronicle.machine answer (state_of chronicle ends)
   pub roomy : IsRoomy chronicle.machine (state_of chronicle ends)
   pub time : ticks ≡ time_of ends
   pub guests : length states_now ≡ chronicle.machine.nodes

@@ -5,7 +5,7 @@ use Rattle.plat_base.specs.Pages.{numbers}
 use Rattle.plat_base.specs.Coarse.{Coarse}
 use Rattle.plat_base.specs.Messages.{is_target, interrupt_of, interrupts, switch_items}
 use Rattle.plat_base.specs.Turns.{Made, fault_items, fault_made, made_by, thaw, daemon}
-use Rattle.plat_base.specs.Verdicts.{policy_answer}
+use Rattle.plat_base.specs.Verdicts.{Answer}
 use Rattle.plat_base.specs.declared.guests.Want.{Want}
 use Rattle.plat_base.specs.declared.endings.Ended.{Ended}
 use Rattle.plat_base.specs.declared.items.Removed.{Removed}
@@ -38,16 +38,16 @@ switch_items_now k q space = switch_items k.machine k.items q space
 abbrev pub fault_items_now : Chronicled → List Ended → (q now entry : ℕ) → Reached → Decision → List Item
 fault_items_now k ends q now entry reach d = fault_items k.machine (state_of k ends) q now entry (reach_seen reach) d
 
-abbrev pub fault_made_now : Chronicled → List Ended → (q now entry : ℕ) → Reached → Made
-fault_made_now k ends q now entry reach =
-    fault_made k.machine (policy_answer k.machine.policy) (state_of k ends) q now entry (reach_seen reach)
+abbrev pub fault_made_now : Chronicled → Answer → List Ended → (q now entry : ℕ) → Reached → Made
+fault_made_now k answer ends q now entry reach =
+    fault_made k.machine answer (state_of k ends) q now entry (reach_seen reach)
 
-abbrev pub made_now : Chronicled → List Ended → (q now : ℕ) → Want → Made
-made_now k ends q now want = made_by k.machine (policy_answer k.machine.policy) (state_of k ends) q now want
+abbrev pub made_now : Chronicled → Answer → List Ended → (q now : ℕ) → Want → Made
+made_now k answer ends q now want = made_by k.machine answer (state_of k ends) q now want
 
 -- the run after a page's thaw, and after the daemon's pass
-abbrev pub thawed_now : Chronicled → List Ended → (now page : ℕ) → Coarse
-thawed_now k ends now page = thaw k.machine (policy_answer k.machine.policy) now (state_of k ends) page
+abbrev pub thawed_now : Chronicled → Answer → List Ended → (now page : ℕ) → Coarse
+thawed_now k answer ends now page = thaw k.machine answer now (state_of k ends) page
 
-abbrev pub daemon_now : Chronicled → List Ended → ℕ → Coarse
-daemon_now k ends now = daemon k.machine (policy_answer k.machine.policy) now (state_of k ends)
+abbrev pub daemon_now : Chronicled → Answer → List Ended → ℕ → Coarse
+daemon_now k answer ends now = daemon k.machine answer now (state_of k ends)

@@ -4,7 +4,6 @@ ghost use Rattle.plat_base.specs.Ends.{ended_of};
 ghost use Rattle.plat_base.specs.Decide.{is_dir};
 ghost use Rattle.plat_base.specs.Directories.{dir_of};
 ghost use Rattle.plat_base.specs.Pages.{entry_at as entry_at_of};
-ghost use Rattle.plat_base.specs.Verdicts.{policy_answer};
 ghost use Rattle.plat_laws.specs.Guests.{IsWithinLimits};
 ghost use Rattle.plat_coarse_laws.specs.Sound.{Sound};
 ghost use Rattle.plat_coarse.specs.Acted.{value_found, IsReachable, made_through, end_within, wants_more};
@@ -18,7 +17,7 @@ ghost use Rattle.plat_coarse.specs.Running.{state_of, made_now, daemon_now};
 use crate::accesses::{Reached, access_of, reach_of};
 use crate::faults::{fault, thaw};
 use crate::messages::switch;
-use plat_base::{Config, End, Ended, Kind, PolicyKind, Want};
+use plat_base::{Config, End, Ended, Kind, Policy, PolicyKind, Want};
 use plat_chronicle::{Chronicle, has_right};
 use plat_guest::{Guest, entry_at};
 
@@ -30,8 +29,9 @@ pub struct Acted {
 }
 
 /// An access through an entry: by the translation that is held, or else after a fault.
-fn access_through(
+fn access_through<P: Policy>(
     chronicle: &mut Chronicle,
+    policy: &P,
     ends: &[Ended],
     q: u32,
     now: u32,
@@ -43,9 +43,11 @@ fn access_through(
     requires page { reach.now.page < chronicle.old.machine.pages }
     requires word { reach.now.word < chronicle.old.machine.words }
     requires dirs { is_dir chronicle.old.machine (dir_of chronicle.old.items reach.now.page) ≡ true }
-    requires room { HasRoom chronicle.old (made_through chronicle.old ends.now q now entry reach.now).items }
-    ensures end { result ≡ (made_through chronicle.old ends.now q now entry reach.now).end }
-    ensures added { HasAdded chronicle.old chronicle.new (made_through chronicle.old ends.now q now entry reach.now).items }
+    requires room { HasRoom chronicle.old
+        (made_through chronicle.old (P.answer policy.now) ends.now q now entry reach.now).items }
+    ensures end { result ≡ (made_through chronicle.old (P.answer policy.now) ends.now q now entry reach.now).end }
+    ensures added { HasAdded chronicle.old chronicle.new
+        (made_through chronicle.old (P.answer policy.now) ends.now q now entry reach.now).items }
 {
     let held = chronicle.held(q, entry);
     match held {
@@ -60,13 +62,14 @@ fn access_through(
             chronicle.add_access(access);
             End::Cut
         }
-        _ => fault(chronicle, ends, q, now, entry, reach),
+        _ => fault(chronicle, policy, ends, q, now, entry, reach),
     }
 }
 
 /// An access that a guest wants of an address that has an entry.
-fn access(
+fn access<P: Policy>(
     chronicle: &mut Chronicle,
+    policy: &P,
     ends: &[Ended],
     q: u32,
     now: u32,
@@ -78,10 +81,14 @@ fn access(
     requires processor { q < chronicle.old.machine.nodes }
     requires dirs { (p : ℕ) → p < chronicle.old.machine.pages → is_dir chronicle.old.machine (dir_of chronicle.old.items p) ≡ true }
     requires reached { entry_at_of chronicle.old.machine space (addr / chronicle.old.machine.words) ≢ None }
-    requires room { HasRoom chronicle.old (made_now chronicle.old ends.now q now (Want.Access kind space addr operand)).items }
-    ensures end { result.end ≡ (made_now chronicle.old ends.now q now (Want.Access kind space addr operand)).end }
+    requires room { let want = Want.Access kind space addr operand
+        in HasRoom chronicle.old (made_now chronicle.old (P.answer policy.now) ends.now q now want).items }
+    ensures end { let want = Want.Access kind space addr operand
+        in result.end ≡ (made_now chronicle.old (P.answer policy.now) ends.now q now want).end }
     ensures value { result.value ≡ value_found chronicle.old.machine chronicle.old.items (Want.Access kind space addr operand) }
-    ensures added { HasAdded chronicle.old chronicle.new (made_now chronicle.old ends.now q now (Want.Access kind space addr operand)).items }
+    ensures added { let want = Want.Access kind space addr operand
+        in HasAdded chronicle.old chronicle.new
+        (made_now chronicle.old (P.answer policy.now) ends.now q now want).items }
 {
     let cfg = chronicle.config();
     let Some(entry) = entry_at(cfg, space, addr / cfg.words) else {
@@ -92,19 +99,27 @@ fn access(
         Kind::Store => 0,
         Kind::Load | Kind::Add => chronicle.value(reach.page, reach.word),
     };
-    let end = access_through(chronicle, ends, q, now, entry, &reach);
+    let end = access_through(chronicle, policy, ends, q, now, entry, &reach);
     Acted { end, value }
 }
 
 /// What the turn of processor `q` at tick `now` adds, where its guest wants this.
-pub fn act(chronicle: &mut Chronicle, ends: &[Ended], q: u32, now: u32, want: Want) -> Acted
+pub fn act<P: Policy>(
+    chronicle: &mut Chronicle,
+    policy: &P,
+    ends: &[Ended],
+    q: u32,
+    now: u32,
+    want: Want,
+) -> Acted
     requires processor { q < chronicle.old.machine.nodes }
     requires dirs { (p : ℕ) → p < chronicle.old.machine.pages → is_dir chronicle.old.machine (dir_of chronicle.old.items p) ≡ true }
     requires reached { IsReachable chronicle.old.machine want }
-    requires room { HasRoom chronicle.old (made_now chronicle.old ends.now q now want).items }
-    ensures end { result.end ≡ (made_now chronicle.old ends.now q now want).end }
+    requires room { HasRoom chronicle.old (made_now chronicle.old (P.answer policy.now) ends.now q now want).items }
+    ensures end { result.end ≡ (made_now chronicle.old (P.answer policy.now) ends.now q now want).end }
     ensures value { result.value ≡ value_found chronicle.old.machine chronicle.old.items want }
-    ensures added { HasAdded chronicle.old chronicle.new (made_now chronicle.old ends.now q now want).items }
+    ensures added { HasAdded chronicle.old chronicle.new
+        (made_now chronicle.old (P.answer policy.now) ends.now q now want).items }
 {
     match want {
         Want::Access {
@@ -112,7 +127,7 @@ pub fn act(chronicle: &mut Chronicle, ends: &[Ended], q: u32, now: u32, want: Wa
             space,
             addr,
             operand,
-        } => access(chronicle, ends, q, now, kind, space, addr, operand),
+        } => access(chronicle, policy, ends, q, now, kind, space, addr, operand),
         Want::Switch(space) => {
             switch(chronicle, q, space);
             still(End::Cut)
@@ -164,13 +179,14 @@ pub fn settle(ends: &mut Vec<Ended>, q: u32, end: End, budget: u32) -> End
 
 /// The daemon's pass after the turn of tick `now`, where that tick is a multiple of its period: each frozen page is thawed,
 /// in rising number.
-pub fn daemon(chronicle: &mut Chronicle, ends: &[Ended], now: u32)
+pub fn daemon<P: Policy>(chronicle: &mut Chronicle, policy: &P, ends: &[Ended], now: u32)
     requires machine { IsWithinLimits chronicle.old.machine }
-    requires sound { Sound chronicle.old.machine (policy_answer chronicle.old.machine.policy) (state_of chronicle.old ends.now) }
-    requires spare { length (daemon_now chronicle.old ends.now now).history ≤ length chronicle.old.items + chronicle.old.spare }
-    requires few { length (daemon_now chronicle.old ends.now now).history ≤ 2621440 }
+    requires sound { Sound chronicle.old.machine (P.answer policy.now) (state_of chronicle.old ends.now) }
+    requires spare { length (daemon_now chronicle.old (P.answer policy.now) ends.now now).history
+        ≤ length chronicle.old.items + chronicle.old.spare }
+    requires few { length (daemon_now chronicle.old (P.answer policy.now) ends.now now).history ≤ 2621440 }
     ensures machine { chronicle.new.machine ≡ chronicle.old.machine }
-    ensures items { state_of chronicle.new ends.now ≡ daemon_now chronicle.old ends.now now }
+    ensures items { state_of chronicle.new ends.now ≡ daemon_now chronicle.old (P.answer policy.now) ends.now now }
     ensures spare { chronicle.new.spare + length chronicle.new.items ≡ chronicle.old.spare + length chronicle.old.items }
 {
     let PolicyKind::Platinum { t2, .. } = chronicle.config().policy else {
@@ -180,6 +196,6 @@ pub fn daemon(chronicle: &mut Chronicle, ends: &[Ended], now: u32)
         return;
     }
     for page in 0..chronicle.config().pages {
-        thaw(chronicle, ends, page, now);
+        thaw(chronicle, policy, ends, page, now);
     }
 }

@@ -5,7 +5,6 @@ ghost use Rattle.plat_base.specs.Turns.{change_by};
 ghost use Rattle.std.specs.Prelude.{◌&&◌, is_none};
 ghost use Rattle.plat_base.specs.Decide.{is_dir, is_empty, asks as asks_of};
 ghost use Rattle.plat_base.specs.Directories.{dir_of};
-ghost use Rattle.plat_base.specs.Verdicts.{policy_answer};
 ghost use Rattle.plat_coarse.specs.Reached.{decided_if_fed};
 ghost use Rattle.plat_chronicle.specs.Chronicle.{HasAdded, HasRoom};
 ghost use Rattle.plat_coarse.specs.Running.{state_of, fault_items_now, fault_made_now, thawed_now};
@@ -28,21 +27,30 @@ fn asks(dir: &Dir, node: u32) -> bool
 
 /// The frame that a fault takes: for an empty page from the nearest module that has one, for a page that moves from the
 /// own module.
-fn got_frame(chronicle: &Chronicle, q: u32, page: u32, now: u32, cause: Cause) -> Option<Frame>
+fn got_frame<P: Policy>(
+    chronicle: &Chronicle,
+    policy: &P,
+    q: u32,
+    page: u32,
+    now: u32,
+    cause: Cause,
+) -> Option<Frame>
     requires processor { q < chronicle.now.machine.nodes }
     requires page { page < chronicle.now.machine.pages }
     requires fault { cause ≢ Cause.Thaw }
-    ensures { result ≡ got_frame_of chronicle.now.machine (policy_answer chronicle.now.machine.policy) chronicle.now.items q page now cause }
+    ensures { result
+        ≡ got_frame_of chronicle.now.machine (P.answer policy.now) chronicle.now.items q page now cause }
 {
     let dir = chronicle.dir(page);
     if dir.state == State::Empty {
         return nearest_free(chronicle, q);
     }
-    let verdict = chronicle
-        .config()
-        .policy
-        .verdict(&dir, chronicle.last(page), now);
-    if asks(&dir, q) && verdict == Verdict::Move {
+    // It is within the limits, so `q` is below 8.
+    let _cfg = chronicle.config();
+    if !asks(&dir, q) {
+        return None;
+    }
+    if policy.verdict(&dir, chronicle.last(page), now) == Verdict::Move {
         free_frame(chronicle, q)
     } else {
         None
@@ -57,22 +65,29 @@ fn is_starved(dir: &Dir, got: Option<Frame>) -> bool
 }
 
 /// The decision of a fault, or none where no frame is free for an empty page.
-fn decision_of(chronicle: &Chronicle, q: u32, page: u32, now: u32, cause: Cause) -> Option<Decision>
+fn decision_of<P: Policy>(
+    chronicle: &Chronicle,
+    policy: &P,
+    q: u32,
+    page: u32,
+    now: u32,
+    cause: Cause,
+) -> Option<Decision>
     requires processor { q < chronicle.now.machine.nodes }
     requires page { page < chronicle.now.machine.pages }
     requires fault { cause ≢ Cause.Thaw }
     requires dirs { is_dir chronicle.now.machine (dir_of chronicle.now.items page) ≡ true }
-    ensures { result ≡ decided_if_fed chronicle.now.machine (policy_answer chronicle.now.machine.policy) chronicle.now.items q page now cause }
+    ensures { result
+        ≡ decided_if_fed chronicle.now.machine (P.answer policy.now) chronicle.now.items q page now cause }
 {
     let dir = chronicle.dir(page);
-    let got = got_frame(chronicle, q, page, now, cause);
+    let got = got_frame(chronicle, policy, q, page, now, cause);
     if is_starved(&dir, got) {
         return None;
     }
-    let cfg = chronicle.config();
     Some(decide(
-        cfg,
-        &cfg.policy,
+        chronicle.config(),
+        policy,
         &dir,
         chronicle.last(page),
         now,
@@ -147,8 +162,9 @@ fn add_fault(
 
 /// A fault of processor `q`: its messages, its change and then the access, or nothing where no frame is free for an empty
 /// page (Cox and Fowler 1989).
-pub fn fault(
+pub fn fault<P: Policy>(
     chronicle: &mut Chronicle,
+    policy: &P,
     ends: &[Ended],
     q: u32,
     now: u32,
@@ -160,11 +176,13 @@ pub fn fault(
     requires page { reach.now.page < chronicle.old.machine.pages }
     requires word { reach.now.word < chronicle.old.machine.words }
     requires dirs { is_dir chronicle.old.machine (dir_of chronicle.old.items reach.now.page) ≡ true }
-    requires room { HasRoom chronicle.old (fault_made_now chronicle.old ends.now q now entry reach.now).items }
-    ensures end { result ≡ (fault_made_now chronicle.old ends.now q now entry reach.now).end }
-    ensures added { HasAdded chronicle.old chronicle.new (fault_made_now chronicle.old ends.now q now entry reach.now).items }
+    requires room { HasRoom chronicle.old
+        (fault_made_now chronicle.old (P.answer policy.now) ends.now q now entry reach.now).items }
+    ensures end { result ≡ (fault_made_now chronicle.old (P.answer policy.now) ends.now q now entry reach.now).end }
+    ensures added { HasAdded chronicle.old chronicle.new
+        (fault_made_now chronicle.old (P.answer policy.now) ends.now q now entry reach.now).items }
 {
-    match decision_of(chronicle, q, reach.page, now, reach.kind.cause()) {
+    match decision_of(chronicle, policy, q, reach.page, now, reach.kind.cause()) {
         None => End::NoFrames,
         Some(decision) => {
             add_fault(chronicle, ends, q, now, entry, reach, &decision);
@@ -174,13 +192,15 @@ pub fn fault(
 }
 
 /// Thaws a page, if it is frozen: the daemon removes all its translations, so that later faults may move it again.
-pub fn thaw(chronicle: &mut Chronicle, ends: &[Ended], page: u32, now: u32)
+pub fn thaw<P: Policy>(chronicle: &mut Chronicle, policy: &P, ends: &[Ended], page: u32, now: u32)
     requires page { page < chronicle.old.machine.pages }
     requires dirs { is_dir chronicle.old.machine (dir_of chronicle.old.items page) ≡ true }
-    requires spare { length (thawed_now chronicle.old ends.now now page).history ≤ length chronicle.old.items + chronicle.old.spare }
-    requires few { length (thawed_now chronicle.old ends.now now page).history ≤ 2621440 }
+    requires spare { length (thawed_now chronicle.old (P.answer policy.now) ends.now now page).history
+        ≤ length chronicle.old.items + chronicle.old.spare }
+    requires few { length (thawed_now chronicle.old (P.answer policy.now) ends.now now page).history ≤ 2621440 }
     ensures machine { chronicle.new.machine ≡ chronicle.old.machine }
-    ensures items { state_of chronicle.new ends.now ≡ thawed_now chronicle.old ends.now now page }
+    ensures items { state_of chronicle.new ends.now
+        ≡ thawed_now chronicle.old (P.answer policy.now) ends.now now page }
     ensures spare { chronicle.new.spare + length chronicle.new.items ≡ chronicle.old.spare + length chronicle.old.items }
 {
     let dir = chronicle.dir(page);
@@ -191,7 +211,7 @@ pub fn thaw(chronicle: &mut Chronicle, ends: &[Ended], page: u32, now: u32)
     let nodes = cfg.nodes;
     let decision = decide(
         cfg,
-        &cfg.policy,
+        policy,
         &dir,
         chronicle.last(page),
         now,

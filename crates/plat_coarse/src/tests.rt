@@ -4,13 +4,13 @@ ghost use Rattle.plat_base.specs.Machine.{is_machine, program_seen, programs_see
 ghost use Rattle.plat_base.specs.Canon.{is_short};
 ghost use Rattle.plat_base.specs.Seen.{machine};
 ghost use Rattle.plat_base.specs.declared.policies.PolicyKind.TheVariants as policy;
-ghost use Rattle.plat_coarse.specs.Tried.{guest, spin_label, tried, two_entries};
+ghost use Rattle.plat_coarse.specs.Tried.{guest, spin_label, trio_guests, tried, two_entries};
 
 use crate::{Coarse, Turned, most_turns};
 use plat_base::{
     Access, Action, Applied, Cause, Change, Config, Copies, Dir, End, Ended, Entry, Frame, Grant,
     GuestText, Init, Instr, Item, Kind, Label, List, Message, Moment, Name, OutOfMemory, Plan,
-    PolicyKind, Removed, Right, State, Switch,
+    Policy, PolicyKind, Removed, Right, State, Switch, Verdict,
 };
 use std::alloc::Global;
 use std::test::Fail;
@@ -123,8 +123,48 @@ fn pair(
     Coarse::new(alloc, cfg)
 }
 
+// A page has at most so many copies: it is copied while it has fewer, and then it stays.
+#[derive(Clone, Copy)]
+struct AtMost {
+    copies: u32,
+}
+
+impl Policy for AtMost {
+    ghost use Rattle.plat_coarse.specs.Tried.{at_most, at_most-frozen};
+
+    ghost answer = { λ it. at_most it.copies };
+
+    ghost frozen_stays = { λ it. at_most-frozen it.copies };
+
+    fn verdict(&self, dir: &Dir, _last: Option<u32>, _now: u32) -> Verdict {
+        if dir.copies.count() < self.copies {
+            Verdict::Move
+        } else {
+            Verdict::Stay
+        }
+    }
+}
+
+// Three nodes of four frames each, whose text says that pages stay, under another policy.
+fn trio(
+    alloc: Global,
+    given: AtMost,
+    first: &[Instr],
+    others: &[Instr],
+) -> Result<Coarse<AtMost>, OutOfMemory>
+    requires limits { IsTrue (is_machine (tried 3 4 policy.Place 9 (trio_guests first.now others.now))) }
+    requires short { IsTrue (is_short (tried 3 4 policy.Place 9 (trio_guests first.now others.now))) }
+{
+    let mut guests = List::with_room(alloc, 3)?;
+    guests.push(guest(alloc, first, None)?);
+    guests.push(guest(alloc, others, None)?);
+    guests.push(guest(alloc, others, None)?);
+    let cfg = config(alloc, 3, 4, PolicyKind::Place, 9, guests)?;
+    Coarse::under(alloc, cfg, given)
+}
+
 // The turns of these processors in this order; one that has ended is passed over.
-fn run(coarse: &mut Coarse, order: &[u32])
+fn run<P: Policy>(coarse: &mut Coarse<P>, order: &[u32])
     ensures { coarse.new.machine ≡ coarse.old.machine }
 {
     for q in order {
@@ -287,12 +327,10 @@ fn froze(time: u32) -> Item {
     changed(0, 2, time, how, before, frozen(), grant(1, Right::Write))
 }
 
-// Processor 1 maps the page, which is on node 0, from afar.
-fn mapped(seq: u32, time: u32) -> Item {
+// The actor maps the page's copy on node 0 from afar; its copies stay as they are.
+fn mapped(actor: u32, seq: u32, time: u32, before: Dir, after: Dir) -> Item {
     let how = (Cause::Read, Action::MapRemote, Removed::Nothing);
-    let before = one_copy(State::Present1, 0);
-    let after = one_copy(State::Present1, 0);
-    changed(1, seq, time, how, before, after, grant(0, Right::Read))
+    changed(actor, seq, time, how, before, after, grant(0, Right::Read))
 }
 
 // Processor 0 keeps its copy of two, to write it.
@@ -439,11 +477,39 @@ fn a_page_stays_and_is_read_from_afar(rt: HostRuntime) -> Result<(), Fail> {
     let items = [
         filled(0, 1, Right::Read),
         loaded(0, 9, 0, 0, 0),
-        mapped(1, 3),
+        mapped(
+            1,
+            1,
+            3,
+            one_copy(State::Present1, 0),
+            one_copy(State::Present1, 0),
+        ),
         loaded(1, 9, 0, 0, 1),
     ];
     assert_eq!(rt; coarse.history(), items.as_slice());
     assert_eq!(rt; coarse.ends(), [halted(2), halted(3)].as_slice());
+    Ok(())
+}
+
+#[test]
+fn the_given_policy_is_asked(rt: HostRuntime) -> Result<(), Fail> {
+    let writes = [LOAD, CLEAR, Instr::Halt];
+    let reads = [LOAD, Instr::Halt];
+    let mut coarse = trio(rt.alloc(), AtMost { copies: 2 }, &writes, &reads)?;
+    run(&mut coarse, &[0, 1, 2, 0]);
+    let items = [
+        filled(0, 1, Right::Read),
+        loaded(0, 9, 0, 0, 0),
+        copied(1, 1, 2, Removed::Nothing, one_copy(State::Present1, 0)),
+        loaded(1, 9, 0, 1, 1),
+        mapped(2, 2, 3, two_copies(), two_copies()),
+        loaded(2, 9, 0, 0, 2),
+        applied(1, Message::Invalidate, Moment::Interrupt),
+        applied(2, Message::Invalidate, Moment::Interrupt),
+        collapsed(3, 4),
+        stored(0, 9, 0, 1, 0, 3),
+    ];
+    assert_eq!(rt; coarse.history(), items.as_slice());
     Ok(())
 }
 

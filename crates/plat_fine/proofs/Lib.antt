@@ -3,4 +3,3 @@ pub mod CrewLemmas
 pub mod ActorLemmas
 pub mod RoomLemmas
 pub mod RunLemmas
-pub mod TriedLemmas

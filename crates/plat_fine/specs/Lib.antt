@@ -1,3 +1,2 @@
 pub mod Crew
 pub mod FineSeen
-pub mod Tried

@@ -1,42 +1,22 @@
 //! Runs event by event, whose words, items and ends were worked out from the rules of single operations.
-ghost use Rattle.std.specs.Prelude.{◌≡◌, ◌<◌, ◌∷◌, [], IfOk, IsTrue};
+ghost use Rattle.std.specs.Prelude.{◌≡◌, ◌<◌, ◌∷◌, [], IsTrue};
 ghost use Rattle.plat_base.specs.Canon.{is_short};
-ghost use Rattle.plat_base.specs.Machine.{is_machine, program_seen};
-ghost use Rattle.plat_fine.specs.Tried.{guest, tried};
+ghost use Rattle.plat_base.specs.Machine.{is_machine};
+ghost use Rattle.plat_samples.specs.Samples.{guest, two_nodes};
 
 use super::*;
 use plat_base::{
-    Access, Action, Applied, Cause, Change, Config, Copies, Dir, End, Ended, Entry, Frame, Grant,
-    GuestText, Init, Instr, Item, Kind, List, Message, Moment, OutOfMemory, Plan, PolicyKind,
-    Removed, Right, State, Switch,
+    Access, Action, Applied, Cause, Change, Copies, Dir, End, Ended, Frame, Grant, Instr, Item,
+    Kind, Message, Moment, OutOfMemory, PolicyKind, Removed, Right, State, Switch,
 };
+use plat_samples::{guest, two_nodes};
 use std::alloc::Global;
 use std::process::Abort;
 use std::test::Fail;
 
 // ---- machines
 
-fn listed<T: Copy>(alloc: Global, items: &[T]) -> Result<List<T>, OutOfMemory>
-    ensures { IfOk result (λ list. list.items ≡ items.now) }
-{
-    let mut list = List::with_room(alloc, items.len())?;
-    for item in items {
-        list.push(*item);
-    }
-    Ok(list)
-}
-
-fn guest(alloc: Global, code: &[Instr]) -> Result<GuestText, OutOfMemory>
-    ensures { IfOk result (λ text. program_seen text ≡ guest code.now) }
-{
-    Ok(GuestText {
-        space: 0,
-        code: listed(alloc, code)?,
-        labels: List::new(alloc),
-    })
-}
-
-/// The run of two such guests, before its first event.
+/// The run of two guests of such code, before its first event.
 fn run(
     alloc: Global,
     policy: PolicyKind,
@@ -44,35 +24,14 @@ fn run(
     first: &[Instr],
     second: &[Instr],
 ) -> Result<Fine, OutOfMemory>
-    requires limits { IsTrue (is_machine (tried policy start (guest first.now ∷ guest second.now ∷ []))) }
-    requires short { IsTrue (is_short (tried policy start (guest first.now ∷ guest second.now ∷ []))) }
+    requires limits { let guests = guest first.now [] ∷ guest second.now [] ∷ []
+        in IsTrue (is_machine (two_nodes policy 100 start guests)) }
+    requires short { let guests = guest first.now [] ∷ guest second.now [] ∷ []
+        in IsTrue (is_short (two_nodes policy 100 start guests)) }
 {
-    let entry = Entry {
-        space: 0,
-        vpage: 0,
-        page: 0,
-    };
-    let init = Init {
-        page: 0,
-        word: 0,
-        value: start,
-    };
-    let mut guests = List::with_room(alloc, 2)?;
-    guests.push(guest(alloc, first)?);
-    guests.push(guest(alloc, second)?);
-    let cfg = Config {
-        nodes: 2,
-        frames: 4,
-        words: 4,
-        pages: 1,
-        policy,
-        budget: 100,
-        schedule: Plan::Robin,
-        distances: List::new(alloc),
-        entries: listed(alloc, &[entry])?,
-        inits: listed(alloc, &[init])?,
-        guests,
-    };
+    let first = guest(alloc, first)?;
+    let second = guest(alloc, second)?;
+    let cfg = two_nodes(alloc, policy, 100, start, first, second)?;
     Fine::new(alloc, cfg)
 }
 

@@ -5,7 +5,7 @@ ghost use Rattle.plat_base.specs.Machine.{Machine};
 ghost use Rattle.plat_base.specs.Pages.{entry_at};
 ghost use Rattle.plat_base.specs.Rules.{bad_rule, is_access_next, is_ordered_access, is_grant_of as is_grant_of_access, is_granted as is_granted_after, entry_of_access};
 ghost use Rattle.plat_base.specs.Seen.{machine};
-ghost use Rattle.plat_base.specs.Verdicts.{policy_answer};
+ghost use Rattle.plat_base.specs.Verdicts.{Answer};
 ghost use Rattle.plat_base.specs.declared.items.Item.{Item as AnyItem};
 ghost use Rattle.plat_base.specs.declared.items.Item.TheVariants as item;
 ghost use Rattle.plat_chronicle.specs.Present.{Shows};
@@ -25,7 +25,7 @@ pub fn judge_access(
     access: &Access,
 ) -> Option<Rule>
     requires { HasTakenSome (machine cfg.now) (judge_of present.old followers.now) }
-    ensures rule { (items : Many AnyItem) → Shows (machine cfg.now) items present.old → AllFollow (machine cfg.now) items followers.now → result ≡ bad_rule (machine cfg.now) (policy_answer cfg.now.policy) items (item.Access access.now) }
+    ensures rule { (answer : Answer) (items : Many AnyItem) → Shows (machine cfg.now) items present.old → AllFollow (machine cfg.now) items followers.now → result ≡ bad_rule (machine cfg.now) answer items (item.Access access.now) }
     ensures taken { (items : Many AnyItem) → Shows (machine cfg.now) items present.old → result ≡ None → Shows (machine cfg.now) (items ++ item.Access access.now ∷ []) present.new }
 {
     let Some(entry) = ordered_entry(cfg, followers, access) else {

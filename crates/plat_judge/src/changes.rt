@@ -3,7 +3,6 @@ ghost use Rattle.std.specs.Prelude.{◌≡◌, ◌≢◌, ◌<◌, List as Many,
 ghost use Rattle.plat_base.specs.Directories.{last_of};
 ghost use Rattle.plat_base.specs.Rules.{bad_rule, is_chained as is_chained_after, is_fault_change as is_fault_change_after, is_fault_decision as is_fault_decision_after, is_fault_of as is_fault_of_after, is_thaw_change as is_thaw_change_after, got_named as got_named_by, has_daemon as has_daemon_by};
 ghost use Rattle.plat_base.specs.Seen.{machine};
-ghost use Rattle.plat_base.specs.Verdicts.{policy_answer};
 ghost use Rattle.plat_base.specs.declared.items.Item.{Item as AnyItem};
 ghost use Rattle.plat_base.specs.declared.items.Item.TheVariants as item;
 ghost use Rattle.plat_chronicle.specs.Present.{Shows, Fits};
@@ -13,23 +12,24 @@ ghost use Rattle.plat_judge.specs.Decided.{decided_if_may};
 ghost use Rattle.plat_judge.specs.Judged.{HasRoom, judge_of};
 
 use crate::alike::{is_decided, is_granted_so, same_cause, same_dir};
-use plat_base::{Action, Cause, Change, Config, Decision, Frame, Grant, PolicyKind, Rule};
+use plat_base::{Action, Cause, Change, Config, Decision, Frame, Grant, Policy, PolicyKind, Rule};
 use plat_chronicle::{Present, has_right};
 use plat_follow::{Followers, Wanted};
 use plat_policy::{decide, may_decide};
 
 /// The rule that a change breaks, if it is the next item. Where it breaks none, it is taken in.
-pub fn judge_change(
+pub fn judge_change<P: Policy>(
     cfg: &Config,
+    policy: &P,
     present: &mut Present,
     followers: &Followers,
     change: &Change,
 ) -> Option<Rule>
     requires { HasRoom (machine cfg.now) (judge_of present.old followers.now) }
-    ensures rule { (items : Many AnyItem) → Shows (machine cfg.now) items present.old → AllFollow (machine cfg.now) items followers.now → result ≡ bad_rule (machine cfg.now) (policy_answer cfg.now.policy) items (item.Change change.now) }
+    ensures rule { (items : Many AnyItem) → Shows (machine cfg.now) items present.old → AllFollow (machine cfg.now) items followers.now → result ≡ bad_rule (machine cfg.now) (P.answer policy.now) items (item.Change change.now) }
     ensures taken { (items : Many AnyItem) → Shows (machine cfg.now) items present.old → result ≡ None → Shows (machine cfg.now) (items ++ item.Change change.now ∷ []) present.new }
 {
-    if !is_chained(cfg, present, followers, change) {
+    if !is_chained(cfg, policy, present, followers, change) {
         return Some(Rule::Chain);
     }
     present.change(cfg, change);
@@ -37,10 +37,16 @@ pub fn judge_change(
 }
 
 /// Whether a change has its page's next number and directory, and is what a fault or a thaw decides.
-fn is_chained(cfg: &Config, present: &Present, followers: &Followers, change: &Change) -> bool
+fn is_chained<P: Policy>(
+    cfg: &Config,
+    policy: &P,
+    present: &Present,
+    followers: &Followers,
+    change: &Change,
+) -> bool
     requires fits { Fits (machine cfg.now) present.now }
     requires stand { AllStand (machine cfg.now) followers.now }
-    ensures { (items : Many AnyItem) → Shows (machine cfg.now) items present.now → AllFollow (machine cfg.now) items followers.now → result ≡ is_chained_after (machine cfg.now) (policy_answer cfg.now.policy) items change.now }
+    ensures { (items : Many AnyItem) → Shows (machine cfg.now) items present.now → AllFollow (machine cfg.now) items followers.now → result ≡ is_chained_after (machine cfg.now) (P.answer policy.now) items change.now }
 {
     if change.page >= cfg.pages
         || change.seq != present.seq(change.page)
@@ -50,15 +56,16 @@ fn is_chained(cfg: &Config, present: &Present, followers: &Followers, change: &C
     }
     let last = present.last(change.page);
     if change.actor < cfg.nodes {
-        is_fault_change(cfg, present, followers, change, last)
+        is_fault_change(cfg, policy, present, followers, change, last)
     } else {
-        change.actor == cfg.nodes && is_thaw_change(cfg, change, last)
+        change.actor == cfg.nodes && is_thaw_change(cfg, policy, change, last)
     }
 }
 
 /// Whether a change of a processor is what its guest's next access makes of the page by a fault.
-fn is_fault_change(
+fn is_fault_change<P: Policy>(
     cfg: &Config,
+    policy: &P,
     present: &Present,
     followers: &Followers,
     change: &Change,
@@ -67,7 +74,7 @@ fn is_fault_change(
     requires fits { Fits (machine cfg.now) present.now }
     requires stand { AllStand (machine cfg.now) followers.now }
     requires processor { change.now.actor < cfg.now.nodes }
-    ensures { (items : Many AnyItem) → Shows (machine cfg.now) items present.now → AllFollow (machine cfg.now) items followers.now → last ≡ last_of items change.now.page → result ≡ is_fault_change_after (machine cfg.now) (policy_answer cfg.now.policy) items change.now change.now.granted }
+    ensures { (items : Many AnyItem) → Shows (machine cfg.now) items present.now → AllFollow (machine cfg.now) items followers.now → last ≡ last_of items change.now.page → result ≡ is_fault_change_after (machine cfg.now) (P.answer policy.now) items change.now change.now.granted }
 {
     let Some(grant) = change.granted else {
         return false;
@@ -78,7 +85,7 @@ fn is_fault_change(
     if !is_fault_of(cfg, present, change, grant, wanted) {
         return false;
     }
-    is_fault_decision(cfg, change, grant, last)
+    is_fault_decision(cfg, policy, change, grant, last)
 }
 
 /// Whether an operation that a guest wants faults through the granted entry, with the change's cause.
@@ -107,20 +114,27 @@ fn is_fault_of(
 }
 
 /// Whether the protocol decides a fault so, with the frame and the right that the change grants.
-fn is_fault_decision(cfg: &Config, change: &Change, grant: Grant, last: Option<u32>) -> bool
+fn is_fault_decision<P: Policy>(
+    cfg: &Config,
+    policy: &P,
+    change: &Change,
+    grant: Grant,
+    last: Option<u32>,
+) -> bool
     requires { change.now.actor < cfg.now.nodes }
-    ensures { (items : Many AnyItem) → last ≡ last_of items change.now.page → result ≡ is_fault_decision_after (machine cfg.now) (policy_answer cfg.now.policy) items change.now grant }
+    ensures { (items : Many AnyItem) → last ≡ last_of items change.now.page → result ≡ is_fault_decision_after (machine cfg.now) (P.answer policy.now) items change.now grant }
 {
     let got = got_named(change.action, grant);
-    match decision_of(cfg, change, last, change.actor, change.cause, got) {
+    match decision_of(cfg, policy, change, last, change.actor, change.cause, got) {
         Some(decision) => is_granted_so(&decision, change, grant),
         None => false,
     }
 }
 
 /// What the protocol decides, with the directory before the change and at its tick, where it may be asked.
-fn decision_of(
+fn decision_of<P: Policy>(
     cfg: &Config,
+    policy: &P,
     change: &Change,
     last: Option<u32>,
     actor: u32,
@@ -128,9 +142,8 @@ fn decision_of(
     got: Option<Frame>,
 ) -> Option<Decision>
     requires { cause ≢ Cause.Thaw → actor < cfg.now.nodes }
-    ensures { result ≡ decided_if_may (machine cfg.now) (policy_answer cfg.now.policy) change.now.before last change.now.time actor cause got }
+    ensures { result ≡ decided_if_may (machine cfg.now) (P.answer policy.now) change.now.before last change.now.time actor cause got }
 {
-    let policy = &cfg.policy;
     let before = &change.before;
     if may_decide(cfg, policy, before, last, change.time, actor, cause, got) {
         Some(decide(cfg, policy, before, last, change.time, actor, cause, got))
@@ -150,8 +163,8 @@ fn got_named(action: Action, grant: Grant) -> Option<Frame>
 }
 
 /// Whether a change of the daemon is the thaw of a frozen page.
-fn is_thaw_change(cfg: &Config, change: &Change, last: Option<u32>) -> bool
-    ensures { (items : Many AnyItem) → last ≡ last_of items change.now.page → result ≡ is_thaw_change_after (machine cfg.now) (policy_answer cfg.now.policy) items change.now }
+fn is_thaw_change<P: Policy>(cfg: &Config, policy: &P, change: &Change, last: Option<u32>) -> bool
+    ensures { (items : Many AnyItem) → last ≡ last_of items change.now.page → result ≡ is_thaw_change_after (machine cfg.now) (P.answer policy.now) items change.now }
 {
     if !has_daemon(&cfg.policy)
         || !same_cause(change.cause, Cause::Thaw)
@@ -159,7 +172,7 @@ fn is_thaw_change(cfg: &Config, change: &Change, last: Option<u32>) -> bool
     {
         return false;
     }
-    match decision_of(cfg, change, last, change.actor, Cause::Thaw, None) {
+    match decision_of(cfg, policy, change, last, change.actor, Cause::Thaw, None) {
         Some(decision) => is_decided(&decision, change),
         None => false,
     }

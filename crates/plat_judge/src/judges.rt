@@ -12,7 +12,7 @@ use crate::accesses::judge_access;
 use crate::changes::judge_change;
 use crate::ends::are_ends;
 use crate::messages::{judge_applied, judge_switch};
-use plat_base::{Bad, Config, Ended, Item, OutOfMemory, Rule};
+use plat_base::{Bad, Config, Ended, Item, OutOfMemory, Policy, Rule};
 use plat_chronicle::Present;
 use plat_follow::Followers;
 use std::alloc::Global;
@@ -36,19 +36,20 @@ impl Model for Judge {
 }
 
 /// The rule that an item breaks, if it is the next one. Where it breaks none, the present takes it in.
-fn judge_item(
+fn judge_item<P: Policy>(
     cfg: &Config,
+    policy: &P,
     present: &mut Present,
     followers: &Followers,
     item: &Item,
 ) -> Option<Rule>
     requires { HasRoom (machine cfg.now) (judge_of present.old followers.now) }
-    ensures rule { (items : Many AnyItem) → Shows (machine cfg.now) items present.old → AllFollow (machine cfg.now) items followers.now → result ≡ bad_rule_of (machine cfg.now) (policy_answer cfg.now.policy) items item.now }
+    ensures rule { (items : Many AnyItem) → Shows (machine cfg.now) items present.old → AllFollow (machine cfg.now) items followers.now → result ≡ bad_rule_of (machine cfg.now) (P.answer policy.now) items item.now }
     ensures taken { (items : Many AnyItem) → Shows (machine cfg.now) items present.old → result ≡ None → Shows (machine cfg.now) (items ++ item.now ∷ []) present.new }
 {
     match item {
         Item::Access(access) => judge_access(cfg, present, followers, access),
-        Item::Change(change) => judge_change(cfg, present, followers, change),
+        Item::Change(change) => judge_change(cfg, policy, present, followers, change),
         Item::Applied(applied) => judge_applied(cfg, present, *applied),
         Item::Switch(switch) => judge_switch(cfg, present, followers, *switch),
     }
@@ -66,14 +67,31 @@ impl Judge {
 
     /// The first item that breaks a rule of the machine's histories, with that rule; where no item does, and some end is not
     /// that of its guest or there is not one for each node, the number of items with the rule of ends. It takes no memory.
+    /// The policy is the one that the machine names.
     pub fn judge(self, cfg: &Config, items: &[Item], ends: &[Ended]) -> Option<Bad>
         requires made { IsJudgeOf (machine cfg.now) self }
         requires few { length items.now ≤ 2621440 }
         ensures { result ≡ first_bad (machine cfg.now) (policy_answer cfg.now.policy) items.now ends.now }
     {
+        self.judge_under(cfg, &cfg.policy, items, ends)
+    }
+
+    /// The same under any policy: it, and not the one that the machine names, decides what a change at a fault is. Whether
+    /// the history may have changes by the daemon is still what the machine says.
+    pub fn judge_under<P: Policy>(
+        self,
+        cfg: &Config,
+        policy: &P,
+        items: &[Item],
+        ends: &[Ended],
+    ) -> Option<Bad>
+        requires made { IsJudgeOf (machine cfg.now) self }
+        requires few { length items.now ≤ 2621440 }
+        ensures { result ≡ first_bad (machine cfg.now) (P.answer policy.now) items.now ends.now }
+    {
         let mut judge = self;
         for (number, item) in items.iter().enumerate() {
-            if let Some(rule) = judge.take_in(cfg, item) {
+            if let Some(rule) = judge.take_in(cfg, policy, item) {
                 return Some(Bad {
                     item: number as u32,
                     rule,
@@ -84,12 +102,12 @@ impl Judge {
     }
 
     /// Takes in one more item, or answers the rule that it breaks.
-    fn take_in(&mut self, cfg: &Config, item: &Item) -> Option<Rule>
+    fn take_in<P: Policy>(&mut self, cfg: &Config, policy: &P, item: &Item) -> Option<Rule>
         requires { HasRoom (machine cfg.now) self.old }
-        ensures rule { (items : Many AnyItem) → HasTaken (machine cfg.now) items self.old → result ≡ bad_rule_of (machine cfg.now) (policy_answer cfg.now.policy) items item.now }
+        ensures rule { (items : Many AnyItem) → HasTaken (machine cfg.now) items self.old → result ≡ bad_rule_of (machine cfg.now) (P.answer policy.now) items item.now }
         ensures taken { (items : Many AnyItem) → HasTaken (machine cfg.now) items self.old → result ≡ None → HasTaken (machine cfg.now) (items ++ item.now ∷ []) self.new }
     {
-        let rule = judge_item(cfg, &mut self.present, &self.followers, item);
+        let rule = judge_item(cfg, policy, &mut self.present, &self.followers, item);
         if rule.is_none() {
             self.followers.add(cfg, item);
         }

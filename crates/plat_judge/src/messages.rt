@@ -2,7 +2,7 @@
 ghost use Rattle.std.specs.Prelude.{◌≡◌, List as Many, ◌++◌, ◌∷◌, [], None};
 ghost use Rattle.plat_base.specs.Rules.{bad_rule, may_apply as may_apply_to, is_answered as is_answered_after, is_ordered_switch as is_ordered_switch_after};
 ghost use Rattle.plat_base.specs.Seen.{machine};
-ghost use Rattle.plat_base.specs.Verdicts.{policy_answer};
+ghost use Rattle.plat_base.specs.Verdicts.{Answer};
 ghost use Rattle.plat_base.specs.declared.items.Item.{Item as AnyItem};
 ghost use Rattle.plat_base.specs.declared.items.Item.TheVariants as item;
 ghost use Rattle.plat_chronicle.specs.Present.{Shows, Fits};
@@ -16,7 +16,7 @@ use plat_follow::Followers;
 /// The rule that an applied message breaks, if it is the next item. Where it breaks none, it is taken in.
 pub fn judge_applied(cfg: &Config, present: &mut Present, applied: Applied) -> Option<Rule>
     requires { (items : Many AnyItem) × Shows (machine cfg.now) items present.old }
-    ensures rule { (items : Many AnyItem) → Shows (machine cfg.now) items present.old → result ≡ bad_rule (machine cfg.now) (policy_answer cfg.now.policy) items (item.Applied applied) }
+    ensures rule { (answer : Answer) (items : Many AnyItem) → Shows (machine cfg.now) items present.old → result ≡ bad_rule (machine cfg.now) answer items (item.Applied applied) }
     ensures taken { (items : Many AnyItem) → Shows (machine cfg.now) items present.old → result ≡ None → Shows (machine cfg.now) (items ++ item.Applied applied ∷ []) present.new }
 {
     if !is_answered(cfg, present, applied) {
@@ -58,7 +58,7 @@ pub fn judge_switch(
     switch: Switch,
 ) -> Option<Rule>
     requires { HasTakenSome (machine cfg.now) (judge_of present.old followers.now) }
-    ensures rule { (items : Many AnyItem) → AllFollow (machine cfg.now) items followers.now → result ≡ bad_rule (machine cfg.now) (policy_answer cfg.now.policy) items (item.Switch switch) }
+    ensures rule { (answer : Answer) (items : Many AnyItem) → AllFollow (machine cfg.now) items followers.now → result ≡ bad_rule (machine cfg.now) answer items (item.Switch switch) }
     ensures taken { (items : Many AnyItem) → Shows (machine cfg.now) items present.old → result ≡ None → Shows (machine cfg.now) (items ++ item.Switch switch ∷ []) present.new }
 {
     if !is_ordered_switch(cfg, followers, switch) {

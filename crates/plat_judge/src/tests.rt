@@ -1,17 +1,40 @@
 //! Small histories of two processors, good and bad, each with the item and the rule that it breaks.
-ghost use Rattle.std.specs.Prelude.{◌≡◌, ◌<◌, ◌≤◌, ◌∷◌, [], length, IfOk};
+ghost use Rattle.std.specs.Prelude.{◌≡◌, ◌<◌, ◌≤◌, ◌∷◌, [], length, false, IfOk};
 ghost use Rattle.plat_base.specs.Machine.{program_seen};
+ghost use Rattle.plat_base.specs.Rules.{has_daemon};
 ghost use Rattle.plat_base.specs.Seen.{machine};
 ghost use Rattle.plat_judge.specs.Tried.{tried, writer, reader, program, one_entry};
 
 use crate::Judge;
 use plat_base::{
     Access, Action, Applied, Bad, Cause, Change, Config, Copies, Dir, End, Ended, Entry, Frame,
-    Grant, GuestText, Instr, Item, Kind, List, Message, Moment, OutOfMemory, Plan, PolicyKind,
-    Removed, Right, Rule, State, Switch,
+    Grant, GuestText, Instr, Item, Kind, List, Message, Moment, OutOfMemory, Plan, Policy,
+    PolicyKind, Removed, Right, Rule, State, Switch, Verdict,
 };
 use std::alloc::Global;
 use std::test::Fail;
+
+// A page with fewer than so many copies moves, and others stay.
+#[derive(Clone, Copy)]
+struct AtMost {
+    copies: u32,
+}
+
+impl Policy for AtMost {
+    ghost use Rattle.plat_judge.specs.Tried.{at_most_answer, at_most_answer-frozen};
+
+    ghost answer = { λ it. at_most_answer it.copies };
+
+    ghost frozen_stays = { λ it. at_most_answer-frozen it.copies };
+
+    fn verdict(&self, dir: &Dir, _last: Option<u32>, _now: u32) -> Verdict {
+        if dir.copies.count() < self.copies {
+            Verdict::Move
+        } else {
+            Verdict::Stay
+        }
+    }
+}
 
 fn listed<T: Copy>(alloc: Global, items: &[T]) -> Result<List<T>, OutOfMemory>
     ensures { IfOk result (λ list. list.items ≡ items.now) }
@@ -79,8 +102,9 @@ fn entries(alloc: Global) -> Result<List<Entry>, OutOfMemory>
     )
 }
 
-fn two_nodes(alloc: Global) -> Result<Config, OutOfMemory>
-    ensures { IfOk result (λ cfg. machine cfg ≡ tried) }
+fn two_nodes(alloc: Global, policy: PolicyKind) -> Result<Config, OutOfMemory>
+    requires { has_daemon policy ≡ false }
+    ensures { IfOk result (λ cfg. machine cfg ≡ tried policy) }
 {
     let mut guests = List::with_room(alloc, 2)?;
     guests.push(writing(alloc)?);
@@ -90,7 +114,7 @@ fn two_nodes(alloc: Global) -> Result<Config, OutOfMemory>
         frames: 4,
         words: 4,
         pages: 1,
-        policy: PolicyKind::Replicate,
+        policy,
         budget: 100,
         schedule: Plan::Robin,
         distances: List::new(alloc),
@@ -103,7 +127,7 @@ fn two_nodes(alloc: Global) -> Result<Config, OutOfMemory>
 fn judged(alloc: Global, items: &[Item], ends: &[Ended]) -> Result<Option<Bad>, OutOfMemory>
     requires { length items.now ≤ 2621440 }
 {
-    let cfg = two_nodes(alloc)?;
+    let cfg = two_nodes(alloc, PolicyKind::Replicate)?;
     let judge = Judge::new(alloc, &cfg)?;
     Ok(judge.judge(&cfg, items, ends))
 }
@@ -390,6 +414,27 @@ fn the_ends_are_those_of_the_guests(rt: HostRuntime) -> Result<(), Fail> {
     assert_eq!(rt;
         judged(alloc, &items[..4], &[halted(5), cut])?,
         bad(4, Rule::Ends)
+    );
+    Ok(())
+}
+
+#[test]
+fn a_history_is_good_under_its_own_policy(rt: HostRuntime) -> Result<(), Fail> {
+    let alloc = rt.alloc();
+    let items = history();
+    let ends = [halted(5), halted(3)];
+    let two = AtMost { copies: 2 };
+    let placed = two_nodes(alloc, PolicyKind::Place)?;
+    let judge = Judge::new(alloc, &placed)?;
+    assert_eq!(rt; judge.judge_under(&placed, &two, &items, &ends), None);
+    let judge = Judge::new(alloc, &placed)?;
+    assert_eq!(rt; judge.judge(&placed, &items, &ends), bad(3, Rule::Chain));
+    let one = AtMost { copies: 1 };
+    let replicated = two_nodes(alloc, PolicyKind::Replicate)?;
+    let judge = Judge::new(alloc, &replicated)?;
+    assert_eq!(rt;
+        judge.judge_under(&replicated, &one, &items, &ends),
+        bad(3, Rule::Chain)
     );
     Ok(())
 }

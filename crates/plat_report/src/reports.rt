@@ -4,7 +4,7 @@ ghost use Rattle.std.specs.Prelude.{◌≡◌, ◌≤◌, List as Many, [], leng
 ghost use Rattle.plat_base.specs.Seen.{machine};
 ghost use Rattle.plat_base.specs.Report.{report, summary, report_lines, summary_lines};
 ghost use Rattle.plat_base.specs.Rules.{Good};
-ghost use Rattle.plat_base.specs.Verdicts.{policy_answer};
+ghost use Rattle.plat_base.specs.Verdicts.{Answer};
 ghost use Rattle.plat_flat.specs.FlatSeen.{IsFlatOf};
 ghost use Rattle.plat_io.specs.Adds.{Adds};
 ghost use Rattle.plat_io.specs.Lines.{AddsLines};
@@ -34,7 +34,7 @@ pub fn report<K: Sink>(
 ) -> Result<(), WriteFault>
     requires made { IsFlatOf (machine cfg.now) [] tally }
     requires few { length items.now ≤ MOST_ITEMS }
-    requires good { Good (machine cfg.now) (policy_answer (machine cfg.now).policy) items.now ends.now }
+    requires good { (answer : Answer) × Good (machine cfg.now) answer items.now ends.now }
     ensures { Adds K.Sink sink.old sink.new result (report (machine cfg.now) items.now ends.now) }
 {
     write_report(tally, cfg, items, ends, sink)
@@ -50,7 +50,7 @@ fn write_report<K: Sink>(
 ) -> Result<(), WriteFault>
     requires made { IsFlatOf (machine cfg.now) [] tally }
     requires few { length items.now ≤ MOST_ITEMS }
-    requires good { Good (machine cfg.now) (policy_answer (machine cfg.now).policy) items.now ends.now }
+    requires good { (answer : Answer) × Good (machine cfg.now) answer items.now ends.now }
     ensures { AddsLines K.Sink sink.old sink.new result (report_lines (machine cfg.now) items.now ends.now) }
 {
     write_line(
@@ -109,7 +109,7 @@ pub fn summary<K: Sink>(
 ) -> Result<(), WriteFault>
     requires made { IsFlatOf (machine cfg.now) [] _tally }
     requires few { length items.now ≤ MOST_ITEMS }
-    requires good { Good (machine cfg.now) (policy_answer (machine cfg.now).policy) items.now ends.now }
+    requires good { (answer : Answer) × Good (machine cfg.now) answer items.now ends.now }
     ensures { Adds K.Sink sink.old sink.new result (summary n (machine cfg.now) items.now ends.now) }
 {
     write_summary(cfg, items, ends, n, sink)
@@ -124,7 +124,7 @@ fn write_summary<K: Sink>(
     sink: &mut K,
 ) -> Result<(), WriteFault>
     requires few { length items.now ≤ MOST_ITEMS }
-    requires good { Good (machine cfg.now) (policy_answer (machine cfg.now).policy) items.now ends.now }
+    requires good { (answer : Answer) × Good (machine cfg.now) answer items.now ends.now }
     ensures { AddsLines K.Sink sink.old sink.new result (summary_lines n (machine cfg.now) items.now ends.now) }
 {
     write_line(sink, &[Word::Text(b"big"), Word::Number(n)])?;

@@ -8,7 +8,7 @@ use Rattle.plat_table.specs.Riders.{is_live_at, numbers_of}
 use Rattle.plat_base.specs.Machine.{Machine}
 use Rattle.plat_base.specs.Pages.{numbers}
 use Rattle.plat_table.specs.Rule.{Held, held_first, kept_of}
-use Rattle.plat_table.specs.Tried.{adding}
+use Rattle.plat_samples.specs.Samples.{adding}
 
 pub one_there : (crew : List Held) (a : ℕ) → numbers_of crew ≡ a ∷ [] → length crew ≡ 1
 one_there [] a e = absurd cc

@@ -4,4 +4,3 @@ pub mod Actors
 pub mod Riders
 pub mod Boards
 pub mod Closed
-pub mod Tried

@@ -1,39 +1,16 @@
 //! The program `platinum`.
 #![tactic(auto)]
 
-mod faults;
-
-use faults::{Fault, fault_of, number_of};
 use plat_base::Status;
 use plat_cmd::platinum;
 use plat_io::{StdSink, StdSource};
+use plat_program::{fault_of, number_of, status_after, status_of_words};
 use plat_table::FreeGate;
 use std::io::{BufWriter, Write};
 use std::process::ExitCode;
 use std::sync::Wait;
 use std::thread::Threads;
 use std::{env, io};
-
-/// The status where the words cannot be had: they are none of ours where one of them is no text.
-fn status_of_words(error: io::ErrorKind) -> Status {
-    match error {
-        io::ErrorKind::InvalidData => Status::BadWords,
-        _ => Status::OutOfMemory,
-    }
-}
-
-/// The status once the buffer was written too: a fault takes the place of a status with which something was written.
-fn status_after(status: Status, flushed: io::Result<()>) -> Status {
-    let has_written = matches!(
-        status,
-        Status::Done | Status::NoFrames | Status::Spent | Status::EventLimit
-    );
-    if has_written && flushed.is_err() {
-        Status::WriteFault
-    } else {
-        status
-    }
-}
 
 /// Makes the command that the words name. Its threads are made with the handle `threads`.
 fn status_of<R: Threads + Wait + Sync>(rt: &HostRuntime, threads: &R) -> Status {

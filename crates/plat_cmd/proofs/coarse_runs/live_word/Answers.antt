@@ -11,7 +11,7 @@ use Rattle.plat_cmd.proofs.coarse_runs.live_word.Goals.{then-live, else-live}
 
 -- src/coarse_runs.rt:19:5
 pub loop-q-preserved : goal.loop-q-preserved
-loop-q-preserved c =
+loop-q-preserved g c =
     let low : c.loop-q.q < 32 = omega (arith, nodes-most (machine c.config.result.now) c.config.result.now.limits, c.loop-q-test.true) in
     elim c.if-live.branch [
       | then-live w ↦
@@ -39,7 +39,7 @@ loop-q-preserved c =
 
 -- src/coarse_runs.rt:15:1
 pub returns : goal.returns
-returns c =
+returns g c =
     let most = nodes-most (machine c.config.result.now) c.config.result.now.limits in
     subst (λ (m : Machine). actors_of c.loop-q.live ≡ live_processors m c.args.coarse.now.run) c.config.ensures
     (actors_are (is_live c.args.coarse.now.run.ends) c.config.result.now.nodes c.loop-q.live (omega (arith, most))

@@ -1,10 +1,14 @@
 use Rattle.std.proofs.Common.{◌≡◌}
-use Rattle.plat_cmd.specs.Steps.{standing, after_turns}
+use Rattle.plat_base.specs.Schedule.{scheduled}
+use Rattle.plat_cmd.specs.Steps.{standing}
 use Rattle.plat_cmd.proofs.coarse_runs.make_turns.Given as goal
 
 abbrev pub invariant-loop-turn : goal.invariant-loop-turn
-invariant-loop-turn l = record {
+invariant-loop-turn g l = record {
   config : l.coarse.machine ≡ l.fn.coarse.machine;
+  policy : l.coarse.policy ≡ l.fn.coarse.policy;
   plan : l.schedule.turns ≡ l.fn.coarse.machine.schedule;
-  run : standing l.coarse l.schedule ≡ after_turns l.fn.coarse.machine l._turn;
+  run :
+      standing l.coarse l.schedule
+      ≡ scheduled l.fn.coarse.machine (g.P.Policy.answer l.fn.coarse.policy) l._turn;
 }

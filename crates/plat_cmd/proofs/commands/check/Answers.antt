@@ -2,7 +2,7 @@ use Rattle.std.proofs.Common.{refl, ◌∙◌}
 use Rattle.plat_base.specs.Seen.{machine}
 use Rattle.plat_cmd.specs.Inputs.{machine_text}
 use Rattle.plat_cmd.specs.declared.words.Command.TheVariants as command
-use Rattle.plat_cmd.proofs.PromiseLemmas.{did, stopped, told_as, only_it, stop_is, not_refused}
+use Rattle.plat_cmd.proofs.PromiseLemmas.{did, stopped, told_as, only_it, stop_is, not_refused, takes_ok, takes_err}
 use Rattle.plat_cmd.proofs.commands.check.Goals as goal
 
 pub returns-in-Ok : goal.returns-in-Ok
@@ -13,6 +13,7 @@ returns-in-Ok g c =
     did command.Check g.S.Source g.K.Sink c.args.source.now c.read_machine.new.source c.args.sink.now c.print.new.sink c.print.result (machine c.in-Ok.cfg)
     (told_as told left read c.in-Ok.cfg c.in-Ok.is c.read_machine.ensures.found c.read_machine.ensures.exact c.read_machine.ensures.all)
     c.print.ensures (only_it machine_text told read machine c.read_machine.ensures.only c.in-Ok.cfg c.in-Ok.is) c.read_machine.ensures.count
+    (takes_ok machine_text told left read c.in-Ok.cfg c.in-Ok.is c.read_machine.ensures.taken)
 
 pub returns-in-Err : goal.returns-in-Err
 returns-in-Err g c =
@@ -23,3 +24,4 @@ returns-in-Err g c =
     (stop_is machine_text told read (g.S.Source.faults c.args.source.now) (g.S.Source.faults c.read_machine.new.source) c.in-Err.stop c.in-Err.is c.read_machine.ensures.stopped)
     tt (record { ended = c.without_run.ensures.status ∙ c.stop_status.ensures; history = c.without_run.ensures.kept; no_threads = c.without_run.ensures.ran; sink = refl })
     (not_refused machine_text told read machine c.read_machine.ensures.only c.in-Err.stop c.in-Err.is) c.read_machine.ensures.count
+    (takes_err machine_text told left read c.in-Err.stop c.in-Err.is c.read_machine.ensures.taken)

@@ -4,7 +4,7 @@ use Rattle.plat_cmd.specs.Commands.{read_of}
 use Rattle.plat_cmd.specs.Promises.{Promises}
 use Rattle.plat_cmd.specs.declared.words.Command.{Command}
 use Rattle.plat_cmd.specs.declared.words.Command.TheVariants as command
-use Rattle.plat_cmd.proofs.PromiseLemmas.{named_by, not_bad, never_bad_words, any_command, wanting, printed_or_not, summed_or_not}
+use Rattle.plat_cmd.proofs.PromiseLemmas.{named_by, not_bad, any_command, wanting, printed_or_not, summed_or_not}
 use Rattle.plat_cmd.proofs.commands.platinum.Goals as goal
 
 pub returns-in-Ok-Check-clause-named : goal.returns-in-Ok-Check-clause-named
@@ -20,9 +20,6 @@ returns-in-Ok-Check-clause-bad_words g c =
     (c.in-Ok-Check.is ∙ ap (λ (d : Command). Ok d) c.in-Ok-Check.field-0-is) _
     c.read_words.ensures.command c.read_words.ensures.bad_words
 
-pub returns-in-Ok-Check-clause-unread : goal.returns-in-Ok-Check-clause-unread
-returns-in-Ok-Check-clause-unread g c = λ bad. absurd (never_bad_words c.check.ensures bad)
-
 pub returns-in-Ok-Sim-clause-named : goal.returns-in-Ok-Sim-clause-named
 returns-in-Ok-Sim-clause-named g c =
     named_by c.read_words.result (read_of (texts_of c.args.words.now)) (command.Sim c.in-Ok-Sim.grain c.in-Ok-Sim.output)
@@ -36,9 +33,6 @@ returns-in-Ok-Sim-clause-bad_words g c =
     (c.in-Ok-Sim.is ∙ ap (λ (d : Command). Ok d) c.in-Ok-Sim.field-0-is) _
     c.read_words.ensures.command c.read_words.ensures.bad_words
 
-pub returns-in-Ok-Sim-clause-unread : goal.returns-in-Ok-Sim-clause-unread
-returns-in-Ok-Sim-clause-unread g c = λ bad. absurd (never_bad_words c.sim.ensures bad)
-
 pub returns-in-Ok-Run-clause-named : goal.returns-in-Ok-Run-clause-named
 returns-in-Ok-Run-clause-named g c =
     named_by c.read_words.result (read_of (texts_of c.args.words.now)) (command.Run c.in-Ok-Run.output)
@@ -51,9 +45,6 @@ returns-in-Ok-Run-clause-bad_words g c =
     not_bad c.read_words.result (read_of (texts_of c.args.words.now)) (command.Run c.in-Ok-Run.output)
     (c.in-Ok-Run.is ∙ ap (λ (d : Command). Ok d) c.in-Ok-Run.field-0-is) _
     c.read_words.ensures.command c.read_words.ensures.bad_words
-
-pub returns-in-Ok-Run-clause-unread : goal.returns-in-Ok-Run-clause-unread
-returns-in-Ok-Run-clause-unread g c = λ bad. absurd (never_bad_words c.run.ensures bad)
 
 pub returns-in-Ok-Gen-clause-named : goal.returns-in-Ok-Gen-clause-named
 returns-in-Ok-Gen-clause-named g c =
@@ -97,9 +88,6 @@ returns-in-Ok-Replay-clause-bad_words g c =
     (c.in-Ok-Replay.is ∙ ap (λ (d : Command). Ok d) c.in-Ok-Replay.field-0-is) _
     c.read_words.ensures.command c.read_words.ensures.bad_words
 
-pub returns-in-Ok-Replay-clause-unread : goal.returns-in-Ok-Replay-clause-unread
-returns-in-Ok-Replay-clause-unread g c = λ bad. absurd (never_bad_words c.replay.ensures bad)
-
 pub returns-in-Ok-Race-clause-named : goal.returns-in-Ok-Race-clause-named
 returns-in-Ok-Race-clause-named g c =
     named_by c.read_words.result (read_of (texts_of c.args.words.now)) command.Race
@@ -114,9 +102,6 @@ returns-in-Ok-Race-clause-bad_words g c =
     (c.in-Ok-Race.is ∙ ap (λ (d : Command). Ok d) c.in-Ok-Race.field-0-is) _
     c.read_words.ensures.command c.read_words.ensures.bad_words
 
-pub returns-in-Ok-Race-clause-unread : goal.returns-in-Ok-Race-clause-unread
-returns-in-Ok-Race-clause-unread g c = λ bad. absurd (never_bad_words c.race.ensures bad)
-
 pub returns-in-Ok-Cost-clause-named : goal.returns-in-Ok-Cost-clause-named
 returns-in-Ok-Cost-clause-named g c =
     named_by c.read_words.result (read_of (texts_of c.args.words.now)) command.Cost
@@ -130,9 +115,6 @@ returns-in-Ok-Cost-clause-bad_words g c =
     not_bad c.read_words.result (read_of (texts_of c.args.words.now)) command.Cost
     (c.in-Ok-Cost.is ∙ ap (λ (d : Command). Ok d) c.in-Ok-Cost.field-0-is) _
     c.read_words.ensures.command c.read_words.ensures.bad_words
-
-pub returns-in-Ok-Cost-clause-unread : goal.returns-in-Ok-Cost-clause-unread
-returns-in-Ok-Cost-clause-unread g c = λ bad. absurd (never_bad_words c.cost.ensures bad)
 
 pub returns-in-Err-OutOfMemory-clause-named : goal.returns-in-Err-OutOfMemory-clause-named
 returns-in-Err-OutOfMemory-clause-named g c =

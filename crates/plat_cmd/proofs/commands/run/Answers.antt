@@ -1,6 +1,6 @@
 use Rattle.std.proofs.Common.{◌≡◌, inr, refl, sym, subst, ◌∙◌, ⊎_elim}
 use Rattle.plat_base.specs.Seen.{machine}
-use Rattle.plat_cmd.specs.Inputs.{machine_text}
+use Rattle.plat_cmd.specs.Inputs.{machine_text, too_long}
 use Rattle.plat_cmd.specs.Promises.{IsNoRefusal, Promises}
 use Rattle.plat_cmd.specs.Steps.{stop_status}
 use Rattle.plat_cmd.specs.declared.words.Command.{Command}
@@ -8,7 +8,7 @@ use Rattle.plat_cmd.specs.declared.words.Command.TheVariants as command
 use Rattle.plat_cmd.specs.declared.words.Output.{Output}
 use Rattle.plat_cmd.specs.declared.words.Output.TheVariants as output
 use Rattle.plat_cmd.specs.declared.outcomes.Stop.TheVariants as stop
-use Rattle.plat_cmd.proofs.PromiseLemmas.{did, stopped, told_all, told_as, only_it, stop_is, not_refused}
+use Rattle.plat_cmd.proofs.PromiseLemmas.{did, stopped, told_all, told_as, only_it, stop_is, not_refused, takes_ok, takes_err, takes_short}
 use Rattle.plat_cmd.proofs.commands.run.Goals as goal
 
 -- the output of this arm
@@ -28,9 +28,11 @@ returns-in-Report g c =
     (⊎_elim
     (λ run. did did_run g.S.Source g.K.Sink c.args.source.now c.read_machine.new.source c.args.sink.now c.run_reported.new.sink out m
     (told_as told left read c.in-Ok.cfg c.in-Ok.is c.read_machine.ensures.found c.read_machine.ensures.exact c.read_machine.ensures.all) run
-    (only_it machine_text told read machine c.read_machine.ensures.only c.in-Ok.cfg c.in-Ok.is) c.read_machine.ensures.count)
+    (only_it machine_text told read machine c.read_machine.ensures.only c.in-Ok.cfg c.in-Ok.is) c.read_machine.ensures.count
+    (takes_ok machine_text told left read c.in-Ok.cfg c.in-Ok.is c.read_machine.ensures.taken))
     (λ has. stopped did_run g.S.Source g.K.Sink c.args.source.now c.read_machine.new.source c.args.sink.now c.run_reported.new.sink out stop.OutOfMemory tt tt has
-    (told_all machine_text told (λ it. IsNoRefusal (stop_status stop.OutOfMemory)) (λ it. inr refl)) c.read_machine.ensures.count) c.run_reported.ensures)
+    (told_all machine_text told (λ it. IsNoRefusal (stop_status stop.OutOfMemory)) (λ it. inr refl)) c.read_machine.ensures.count
+    (takes_short machine_text told left ⊥ (stop.OutOfMemory ≡ stop.Refused too_long) (λ f. f) (λ is. cc) (takes_ok machine_text told left read c.in-Ok.cfg c.in-Ok.is c.read_machine.ensures.taken))) c.run_reported.ensures)
 
 pub returns-in-Trace : goal.returns-in-Trace
 returns-in-Trace g c =
@@ -45,9 +47,11 @@ returns-in-Trace g c =
     (⊎_elim
     (λ run. did did_run g.S.Source g.K.Sink c.args.source.now c.read_machine.new.source c.args.sink.now c.run_traced.new.sink out m
     (told_as told left read c.in-Ok.cfg c.in-Ok.is c.read_machine.ensures.found c.read_machine.ensures.exact c.read_machine.ensures.all) run
-    (only_it machine_text told read machine c.read_machine.ensures.only c.in-Ok.cfg c.in-Ok.is) c.read_machine.ensures.count)
+    (only_it machine_text told read machine c.read_machine.ensures.only c.in-Ok.cfg c.in-Ok.is) c.read_machine.ensures.count
+    (takes_ok machine_text told left read c.in-Ok.cfg c.in-Ok.is c.read_machine.ensures.taken))
     (λ has. stopped did_run g.S.Source g.K.Sink c.args.source.now c.read_machine.new.source c.args.sink.now c.run_traced.new.sink out stop.OutOfMemory tt tt has
-    (told_all machine_text told (λ it. IsNoRefusal (stop_status stop.OutOfMemory)) (λ it. inr refl)) c.read_machine.ensures.count) c.run_traced.ensures)
+    (told_all machine_text told (λ it. IsNoRefusal (stop_status stop.OutOfMemory)) (λ it. inr refl)) c.read_machine.ensures.count
+    (takes_short machine_text told left ⊥ (stop.OutOfMemory ≡ stop.Refused too_long) (λ f. f) (λ is. cc) (takes_ok machine_text told left read c.in-Ok.cfg c.in-Ok.is c.read_machine.ensures.taken))) c.run_traced.ensures)
 
 pub returns-in-Err : goal.returns-in-Err
 returns-in-Err g c =
@@ -59,3 +63,4 @@ returns-in-Err g c =
     (stop_is machine_text told read (g.S.Source.faults c.args.source.now) (g.S.Source.faults c.read_machine.new.source) c.in-Err.stop c.in-Err.is c.read_machine.ensures.stopped)
     tt (record { ended = c.without_run.ensures.status ∙ c.stop_status.ensures; history = c.without_run.ensures.kept; no_threads = c.without_run.ensures.ran; sink = refl })
     (not_refused machine_text told read machine c.read_machine.ensures.only c.in-Err.stop c.in-Err.is) c.read_machine.ensures.count
+    (takes_err machine_text told left read c.in-Err.stop c.in-Err.is c.read_machine.ensures.taken)

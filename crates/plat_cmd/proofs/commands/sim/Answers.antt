@@ -1,6 +1,6 @@
 use Rattle.std.proofs.Common.{◌≡◌, inr, refl, sym, subst, ◌∙◌, ⊎_elim}
 use Rattle.plat_base.specs.Seen.{machine}
-use Rattle.plat_cmd.specs.Inputs.{machine_text}
+use Rattle.plat_cmd.specs.Inputs.{machine_text, too_long}
 use Rattle.plat_cmd.specs.Promises.{IsNoRefusal, Promises}
 use Rattle.plat_cmd.specs.Steps.{stop_status}
 use Rattle.plat_cmd.specs.declared.words.Command.{Command}
@@ -9,7 +9,7 @@ use Rattle.plat_cmd.specs.declared.words.Grain.{Grain}
 use Rattle.plat_cmd.specs.declared.words.Output.{Output}
 use Rattle.plat_cmd.specs.declared.words.Output.TheVariants as output
 use Rattle.plat_cmd.specs.declared.outcomes.Stop.TheVariants as stop
-use Rattle.plat_cmd.proofs.PromiseLemmas.{did, stopped, told_all, told_as, only_it, stop_is, not_refused}
+use Rattle.plat_cmd.proofs.PromiseLemmas.{did, stopped, told_all, told_as, only_it, stop_is, not_refused, takes_ok, takes_err, takes_short}
 use Rattle.plat_cmd.proofs.commands.sim.Goals as goal
 
 -- the output of this arm
@@ -29,9 +29,11 @@ returns-in-Report g c =
     (⊎_elim
     (λ run. did sim g.S.Source g.K.Sink c.args.source.now c.read_machine.new.source c.args.sink.now c.simulate.new.sink out m
     (told_as told left read c.in-Ok.cfg c.in-Ok.is c.read_machine.ensures.found c.read_machine.ensures.exact c.read_machine.ensures.all) run
-    (only_it machine_text told read machine c.read_machine.ensures.only c.in-Ok.cfg c.in-Ok.is) c.read_machine.ensures.count)
+    (only_it machine_text told read machine c.read_machine.ensures.only c.in-Ok.cfg c.in-Ok.is) c.read_machine.ensures.count
+    (takes_ok machine_text told left read c.in-Ok.cfg c.in-Ok.is c.read_machine.ensures.taken))
     (λ has. stopped sim g.S.Source g.K.Sink c.args.source.now c.read_machine.new.source c.args.sink.now c.simulate.new.sink out stop.OutOfMemory tt tt has
-    (told_all machine_text told (λ it. IsNoRefusal (stop_status stop.OutOfMemory)) (λ it. inr refl)) c.read_machine.ensures.count) c.simulate.ensures)
+    (told_all machine_text told (λ it. IsNoRefusal (stop_status stop.OutOfMemory)) (λ it. inr refl)) c.read_machine.ensures.count
+    (takes_short machine_text told left ⊥ (stop.OutOfMemory ≡ stop.Refused too_long) (λ f. f) (λ is. cc) (takes_ok machine_text told left read c.in-Ok.cfg c.in-Ok.is c.read_machine.ensures.taken))) c.simulate.ensures)
 
 pub returns-in-Trace : goal.returns-in-Trace
 returns-in-Trace g c =
@@ -46,9 +48,11 @@ returns-in-Trace g c =
     (⊎_elim
     (λ run. did sim g.S.Source g.K.Sink c.args.source.now c.read_machine.new.source c.args.sink.now c.trace.new.sink out m
     (told_as told left read c.in-Ok.cfg c.in-Ok.is c.read_machine.ensures.found c.read_machine.ensures.exact c.read_machine.ensures.all) run
-    (only_it machine_text told read machine c.read_machine.ensures.only c.in-Ok.cfg c.in-Ok.is) c.read_machine.ensures.count)
+    (only_it machine_text told read machine c.read_machine.ensures.only c.in-Ok.cfg c.in-Ok.is) c.read_machine.ensures.count
+    (takes_ok machine_text told left read c.in-Ok.cfg c.in-Ok.is c.read_machine.ensures.taken))
     (λ has. stopped sim g.S.Source g.K.Sink c.args.source.now c.read_machine.new.source c.args.sink.now c.trace.new.sink out stop.OutOfMemory tt tt has
-    (told_all machine_text told (λ it. IsNoRefusal (stop_status stop.OutOfMemory)) (λ it. inr refl)) c.read_machine.ensures.count) c.trace.ensures)
+    (told_all machine_text told (λ it. IsNoRefusal (stop_status stop.OutOfMemory)) (λ it. inr refl)) c.read_machine.ensures.count
+    (takes_short machine_text told left ⊥ (stop.OutOfMemory ≡ stop.Refused too_long) (λ f. f) (λ is. cc) (takes_ok machine_text told left read c.in-Ok.cfg c.in-Ok.is c.read_machine.ensures.taken))) c.trace.ensures)
 
 pub returns-in-Err : goal.returns-in-Err
 returns-in-Err g c =
@@ -60,3 +64,4 @@ returns-in-Err g c =
     (stop_is machine_text told read (g.S.Source.faults c.args.source.now) (g.S.Source.faults c.read_machine.new.source) c.in-Err.stop c.in-Err.is c.read_machine.ensures.stopped)
     tt (record { ended = c.without_run.ensures.status ∙ c.stop_status.ensures; history = c.without_run.ensures.kept; no_threads = c.without_run.ensures.ran; sink = refl })
     (not_refused machine_text told read machine c.read_machine.ensures.only c.in-Err.stop c.in-Err.is) c.read_machine.ensures.count
+    (takes_err machine_text told left read c.in-Err.stop c.in-Err.is c.read_machine.ensures.taken)

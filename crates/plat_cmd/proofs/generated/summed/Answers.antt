@@ -25,9 +25,11 @@ use Rattle.plat_cmd.proofs.generated.summed.Goals as goal
 
 pub summary-written-requires-clause-good : goal.summary-written-requires-clause-good
 summary-written-requires-clause-good g c =
-    let m = machine c.args.made.finished.cfg in
-    same_items (λ is es. Good m (policy_answer m.policy) is es) c.as_slice.result.now (history_of grain.Coarse m) c.as_slice-2.result.now (ends_of grain.Coarse m)
-    (c.as_slice.ensures ∙ c.requires.items) (c.as_slice-2.ensures ∙ c.requires.ends) (run_good m (policy_answer m.policy) c.args.made.finished.cfg.limits)
+    let m = machine c.args.made.finished.cfg in (
+      policy_answer m.policy,
+      same_items (λ is es. Good m (policy_answer m.policy) is es) c.as_slice.result.now (history_of grain.Coarse m) c.as_slice-2.result.now (ends_of grain.Coarse m)
+          (c.as_slice.ensures ∙ c.requires.items) (c.as_slice-2.ensures ∙ c.requires.ends) (run_good m (policy_answer m.policy) c.args.made.finished.cfg.limits),
+    )
 
 pub returns : goal.returns
 returns g c =

@@ -15,9 +15,11 @@ use Rattle.plat_cmd.proofs.replays.reported.Goals as goal
 
 pub report-written-requires-clause-good : goal.report-written-requires-clause-good
 report-written-requires-clause-good g c =
-    let h = seen c.args.judged.history in
-    same_items (λ is es. Good h.machine (policy_answer h.machine.policy) is es) c.as_slice.result.now h.items c.as_slice-2.result.now h.ends
-    c.as_slice.ensures c.as_slice-2.ensures c.requires.good
+    let h = seen c.args.judged.history in (
+      policy_answer h.machine.policy,
+      same_items (λ is es. Good h.machine (policy_answer h.machine.policy) is es) c.as_slice.result.now h.items c.as_slice-2.result.now h.ends
+          c.as_slice.ensures c.as_slice-2.ensures c.requires.good,
+    )
 
 pub returns : goal.returns
 returns g c =

@@ -5,10 +5,11 @@ use Rattle.plat_base.specs.GuestRun.{reach_of}
 use Rattle.plat_coarse.specs.Reached.{reach_seen}
 use Rattle.plat_coarse.proofs.MachineLemmas.{limits_of}
 use Rattle.plat_coarse.proofs.ReachLemmas.{LeadsTo, LeadsTo-found}
+use Rattle.plat_coarse.proofs.acts.access.Given as given
 use Rattle.plat_coarse.proofs.acts.access.Goals as goal
 
-leads : (c : goal.After-reach-1) → LeadsTo c.args.chronicle.now.machine c.in-Some.entry (reach_seen c.reach_of-reach.result)
-leads c =
+leads : (g : given.Over) (c : goal.After-reach-1 g) → LeadsTo c.args.chronicle.now.machine c.in-Some.entry (reach_seen c.reach_of-reach.result)
+leads g c =
     let m = c.args.chronicle.now.machine in
     let is = c.config-cfg.ensures in
     let P : Machine → Type 0 = λ m. entry_at m c.args.space (c.args.addr / m.words) ≡ Some c.in-Some.entry in
@@ -19,7 +20,7 @@ leads c =
     (subst Q is c.reach_of-reach.ensures)
 
 pub value-value-requires : goal.value-value-requires
-value-value-requires c =
+value-value-requires g c =
     let m = c.args.chronicle.now.machine in
     let is = c.config-cfg.ensures in
     let P : Machine → Type 0 = λ m. entry_at m c.args.space (c.args.addr / m.words) ≡ Some c.in-Some.entry in
@@ -31,10 +32,10 @@ value-value-requires c =
     record { page = to.page; word = to.word }
 
 pub access_through-end-requires-clause-entry : goal.access_through-end-requires-clause-entry
-access_through-end-requires-clause-entry c = (leads c).entry
+access_through-end-requires-clause-entry g c = (leads g c).entry
 
 pub access_through-end-requires-clause-page : goal.access_through-end-requires-clause-page
-access_through-end-requires-clause-page c = (leads c).page
+access_through-end-requires-clause-page g c = (leads g c).page
 
 pub access_through-end-requires-clause-dirs : goal.access_through-end-requires-clause-dirs
-access_through-end-requires-clause-dirs c = c.requires.dirs c.reach_of-reach.result.page (leads c).page
+access_through-end-requires-clause-dirs g c = c.requires.dirs c.reach_of-reach.result.page (leads g c).page

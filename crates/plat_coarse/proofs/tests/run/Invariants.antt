@@ -2,4 +2,4 @@ use Rattle.std.proofs.Common.{◌≡◌}
 use Rattle.plat_coarse.proofs.tests.run.Given as goal
 
 abbrev pub invariant-loop-q : goal.invariant-loop-q
-invariant-loop-q l = l.coarse.machine ≡ l.fn.coarse.machine
+invariant-loop-q g l = l.coarse.machine ≡ l.fn.coarse.machine

@@ -10,7 +10,7 @@ pub ordered_entry-requires : goal.ordered_entry-requires
 ordered_entry-requires c = c.requires.1.stand
 
 pub returns-in_default-clause-rule : goal.returns-in_default-clause-rule
-returns-in_default-clause-rule c = λ items shows follow.
+returns-in_default-clause-rule c = λ answer items shows follow.
     let m = machine c.args.cfg.now in
     let a = c.args.access.now in
     breaks-order (is_ordered_access m items a) (is_granted m items a) (is_legal m items a) (sym (c.in_default.ensures.order items follow))
@@ -29,7 +29,7 @@ is_granted-requires-clause-entry c =
     omega (arith, found.below, fits.entries a.actor c.in-Some.ensures.actor)
 
 pub returns-then-not-is_granted-clause-rule : goal.returns-then-not-is_granted-clause-rule
-returns-then-not-is_granted-clause-rule c = λ items shows follow.
+returns-then-not-is_granted-clause-rule c = λ answer items shows follow.
     let m = machine c.args.cfg.now in
     let a = c.args.access.now in
     let granted = c.is_granted.ensures m items shows c.in-Some.ensures.entry in
@@ -37,7 +37,7 @@ returns-then-not-is_granted-clause-rule c = λ items shows follow.
     (sym granted ∙ c.if-not-is_granted.true)
 
 pub returns-then-not-access-clause-rule : goal.returns-then-not-access-clause-rule
-returns-then-not-access-clause-rule c = λ items shows follow.
+returns-then-not-access-clause-rule c = λ answer items shows follow.
     let m = machine c.args.cfg.now in
     let a = c.args.access.now in
     let granted = c.is_granted.ensures m items shows c.in-Some.ensures.entry in
@@ -45,7 +45,7 @@ returns-then-not-access-clause-rule c = λ items shows follow.
     (sym granted ∙ c.if-not-is_granted.false) (sym (c.access.ensures.answer m items shows) ∙ c.if-not-access.true)
 
 pub returns-clause-rule : goal.returns-clause-rule
-returns-clause-rule c = λ items shows follow.
+returns-clause-rule c = λ answer items shows follow.
     let m = machine c.args.cfg.now in
     let a = c.args.access.now in
     let granted = c.is_granted.ensures m items shows c.in-Some.ensures.entry in

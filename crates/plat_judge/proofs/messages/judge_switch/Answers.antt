@@ -11,7 +11,7 @@ pub is_ordered_switch-requires : goal.is_ordered_switch-requires
 is_ordered_switch-requires c = c.requires.1.stand
 
 pub returns-then-not-is_ordered_switch-clause-rule : goal.returns-then-not-is_ordered_switch-clause-rule
-returns-then-not-is_ordered_switch-clause-rule c = λ items follow.
+returns-then-not-is_ordered_switch-clause-rule c = λ answer items follow.
     breaks (is_ordered_switch (machine c.args.cfg.now) items c.args.switch) rule.Order
     (sym (c.is_ordered_switch.ensures items follow) ∙ c.if-not-is_ordered_switch.true)
 
@@ -24,7 +24,7 @@ switch-requires c =
     omega (arith, fits.active, guests-count m c.args.cfg.now.limits, actor)
 
 pub returns-clause-rule : goal.returns-clause-rule
-returns-clause-rule c = λ items follow.
+returns-clause-rule c = λ answer items follow.
     keeps (is_ordered_switch (machine c.args.cfg.now) items c.args.switch) rule.Order
     (sym (c.is_ordered_switch.ensures items follow) ∙ c.if-not-is_ordered_switch.false)
 

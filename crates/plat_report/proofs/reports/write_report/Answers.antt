@@ -6,7 +6,6 @@ use Rattle.plat_base.specs.Pages.{numbers}
 use Rattle.plat_base.specs.Report.{processor_lines}
 use Rattle.plat_report.proofs.WritingLemmas.{adds_more}
 use Rattle.plat_base.specs.Seen.{machine}
-use Rattle.plat_base.specs.Verdicts.{policy_answer}
 use Rattle.plat_report.specs.Sums.{sum_lines}
 use Rattle.plat_report.proofs.FlatLemmas.{legal_of_good, ends_of_good}
 use Rattle.plat_report.proofs.reports.write_report.Goals as goal
@@ -16,11 +15,11 @@ heading = codes "platinum" ∷ codes "report" ∷ codes "1" ∷ []
 
 pub write_processors-requires : goal.write_processors-requires
 write_processors-requires g c =
-    let m = machine c.args.cfg.now in ends_of_good m (policy_answer m.policy) c.args.items.now c.args.ends.now c.requires.good
+    ends_of_good (machine c.args.cfg.now) c.requires.good.0 c.args.items.now c.args.ends.now c.requires.good.1
 
 pub write_sums-requires-clause-legal : goal.write_sums-requires-clause-legal
 write_sums-requires-clause-legal g c =
-    let m = machine c.args.cfg.now in legal_of_good m (policy_answer m.policy) c.args.items.now c.args.ends.now c.requires.good
+    legal_of_good (machine c.args.cfg.now) c.requires.good.0 c.args.items.now c.args.ends.now c.requires.good.1
 
 pub returns : goal.returns
 returns g c =

@@ -7,13 +7,12 @@ use Rattle.plat_base.specs.Pages.{numbers}
 use Rattle.plat_base.specs.Report.{processor_line, total_lines}
 use Rattle.plat_report.proofs.WritingLemmas.{adds_more, adds_part, map_is_flat_map}
 use Rattle.plat_base.specs.Seen.{machine}
-use Rattle.plat_base.specs.Verdicts.{policy_answer}
 use Rattle.plat_report.proofs.FlatLemmas.{ends_of_good}
 use Rattle.plat_report.proofs.reports.write_summary.Goals as goal
 
 pub write_ends-requires : goal.write_ends-requires
 write_ends-requires g c =
-    let m = machine c.args.cfg.now in ends_of_good m (policy_answer m.policy) c.args.items.now c.args.ends.now c.requires.good
+    ends_of_good (machine c.args.cfg.now) c.requires.good.0 c.args.items.now c.args.ends.now c.requires.good.1
 
 pub returns-in_err-write_ends : goal.returns-in_err-write_ends
 returns-in_err-write_ends g c =
