@@ -44,6 +44,16 @@ def straight():
     return text_of(header_of(8, 1, 64, 1, 'place', 65536), [(0, 0, 0)], [guest(node) for node in range(8)])
 
 
+def mapped(policy, maps):
+    """Eight processors that load the words of one page and store one of them in turn, among so many entries of which theirs is
+    the last; the others lead to pages that nobody uses. Each makes 38,003 turns."""
+    def guest(node):
+        return 7, ['set r1 1', 'set r2 2000', 'label again', *(f'load r4 {1008 + word}' for word in range(16)),
+                   f'store r4 {1008 + node}', 'add r3 r3 r1', 'less r3 r2 again', 'halt']
+    others = [(place // 64, place % 64, 1 + place % 63) for place in range(maps - 1)]
+    return text_of(header_of(8, 40, 16, 64, policy, 41000), [*others, (7, 63, 0)], [guest(node) for node in range(8)])
+
+
 def waiting():
     """Guests that switch to a space of 64 entries for ever, so that nearly every event is a look at a mask."""
     return text_of(header_of(2, 4, 4, 1, 'place', 65536), [(0, place, 0) for place in range(64)],

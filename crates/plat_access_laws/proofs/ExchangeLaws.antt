@@ -1,14 +1,14 @@
 -- the exchange of a data word keeps the invariant
-use Rattle.std.specs.Prelude.{◌≡◌, ◌≢◌, ◌⊎◌, ℕ, ◌+◌, ◌<◌, ◌==◌, ◌&&◌, if◌then◌else◌, Bool, true, false, List, [], ◌∷◌, ◌++◌, slice_get, Some, None, IsTrue}
+use Rattle.std.specs.Prelude.{◌≡◌, ◌≢◌, ◌⊎◌, ℕ, ◌+◌, ◌<◌, ◌==◌, ◌&&◌, if◌then◌else◌, Bool, true, false, List, [], ◌∷◌, ◌++◌, slice_get}
+use Rattle.std.specs.Prelude.{Some, None, IsTrue}
 use Rattle.std.proofs.Common.{refl, ap, sym, ◌∙◌, inl, inr, arith, subst}
-use Rattle.std.specs.Option.{option_map}
 use Rattle.std.proofs.lemmas.Bool.{cases_eq, eqb-true, eq-eqb, true≢false}
 use Rattle.std.proofs.lemmas.Bool.Decides.{nat_tests}
 use Rattle.plat_base.specs.Verdicts.{Answer}
 use Rattle.plat_base.specs.Machine.{Machine}
 use Rattle.plat_base.specs.GuestRun.{Reach}
 use Rattle.plat_base.specs.Flat.{is_write, writes_word, flat_value, flat_writes}
-use Rattle.plat_base.specs.Rules.{Good, bad_rule, is_end}
+use Rattle.plat_base.specs.Rules.{Good, bad_rule}
 use Rattle.plat_base.specs.declared.frames.Frame.{Frame}
 use Rattle.plat_base.specs.declared.items.Access.{Access}
 use Rattle.plat_base.specs.declared.items.Item.{Item}
@@ -27,8 +27,8 @@ use Rattle.plat_events.specs.Privates.{Place, Ticking, Lessening, Exchanging, In
 use Rattle.plat_events.specs.Events.{frame_by, translation_now, reach_now, word_after, named_next, memory_now, access_over, with_item}
 use Rattle.plat_events.specs.Kept.{session_of, has_left, activation_at, word_at, private_of}
 use Rattle.plat_events.specs.Views.{place_view}
-use Rattle.plat_events.specs.Runs.{Fine, event, end_at, ends_of}
-use Rattle.plat_events.specs.Shown.{actor_of, items_by, act_of, flat_word, IsReachedAlone, Shows}
+use Rattle.plat_events.specs.Runs.{Fine, event, ends_of}
+use Rattle.plat_events.specs.Shown.{act_of, flat_word, IsReachedAlone, Shows}
 use Rattle.plat_local_laws.specs.Faults.{AccessOk}
 use Rattle.plat_local_laws.specs.Numbers.{is_in_turn}
 use Rattle.plat_local_laws.specs.Standing.{ExchangingOk, PlaceOk}
@@ -38,20 +38,19 @@ use Rattle.plat_local_laws.proofs.NameLaws.{names_word}
 use Rattle.plat_local_laws.proofs.WordLaws.{reached_leaves}
 use Rattle.plat_local_laws.proofs.GuestStepLaws.{access_now}
 use Rattle.plat_local_laws.proofs.PrivateLaws.{private_ok}
-use Rattle.plat_local_laws.proofs.OrderLaws.{cut_in_order}
-use Rattle.plat_fine_laws.specs.Changes.{Changes, GoesOn, IsBy, KeepsFlat, Stays, LeavesPages, KeepsPageWords, ShowsFlat, is_page_word}
+use Rattle.plat_fine_laws.specs.Changes.{Changes, GoesOn, KeepsFlat, Stays, LeavesPages, KeepsPageWords, ShowsFlat, is_page_word}
 use Rattle.plat_fine_laws.proofs.WordLaws.{word_at-other}
 use Rattle.plat_fine_laws.proofs.PrivateLaws.{private_of-get}
 use Rattle.plat_fine_laws.proofs.ActorFieldLaws.{each-private}
-use Rattle.plat_fine_laws.proofs.JournalLaws.{items_by-own}
+use Rattle.plat_fine_laws.proofs.MadeLaws.{stays-made, good-made}
 use Rattle.plat_fine_laws.proofs.EndFieldLaws.{turns-still, live-still}
-use Rattle.plat_fine_laws.proofs.GoodLaws.{good-next}
 use Rattle.plat_fine_laws.proofs.PlacedLaws.{Scans-still}
 use Rattle.plat_fine_laws.proofs.PlaceLaws.{turn_over-goes, IsPlain, plain_view}
 use Rattle.plat_fine_laws.proofs.TurnLaws.{turn_over-plain}
 use Rattle.plat_fine_laws.proofs.ReachedLaws.{reached-moved}
 use Rattle.plat_fine_laws.proofs.AloneLaws.{alone_ok}
-use Rattle.plat_fine_laws.proofs.AccessLaws.{access-page_below, access-word_below, access-kept, access-data, access-modified, access-unremoved, access-rule}
+use Rattle.plat_fine_laws.proofs.AccessLaws.{access-page_below, access-word_below, access-kept, access-data, access-modified}
+use Rattle.plat_fine_laws.proofs.AccessLaws.{access-unremoved, access-rule}
 use Rattle.plat_fine_laws.proofs.ExpectLaws.{keeps_failed_exchange}
 use Rattle.plat_fine_laws.proofs.LoadLaws.{leaves-access}
 use Rattle.plat_fine_laws.proofs.Footprints.{exchange-made}
@@ -205,22 +204,8 @@ module _ (m : Machine) (answer : Answer) (s : Fine) (a seen : ℕ) (limits : IsW
   moved-space =
       space-guest_after m a (private_of m s a).guest (value_read n) ∙ ap (space_after (private_of m s a).guest.space) access.wants
 
-  own : IsBy a (Some made)
-  own = λ i is. ap actor_of (same_item i is)
-    where
-      same_item : (i : Item) → Some made ≡ Some i → i ≡ made
-      same_item i is = cc
-
   stays : Stays m a (private_of m s a) next (Some made)
-  stays = record {
-    pmap = refl;
-    running =
-        ap (option_map (λ (x : Session). record { actor = a; now = (private_of m s a).now; session = x })) goes.session
-        ∙ sym (ap (option_map (λ (x : Session). record { actor = a; now = (private_of m s a).now; session = x })) free);
-    journal = refl;
-    own = own;
-    framed = λ enough. goes.framed;
-  }
+  stays = stays-made m a (private_of m s a) next made refl free goes refl refl refl
 
   leaves : LeavesPages m s.history t.history
   leaves = subst (LeavesPages m s.history) (sym changes.history) (leaves-access m s.history acc)
@@ -266,18 +251,8 @@ module _ (m : Machine) (answer : Answer) (s : Fine) (a seen : ℕ) (limits : IsW
 
   good : Good m answer t.history (ends_of m t.privates)
   good =
-      let journal : items_by a (with_item s.history (Some made)) ≡ next.journal =
-      items_by-own a s.history (Some made) own ∙ ap (λ j. with_item j (Some made)) (sym (shows.journals_are_history a within)) in
-      let cut : is_end m (with_item s.history (Some made)) a (end_at next.place) next.turns ≡ true =
-      ap (λ e. is_end m (with_item s.history (Some made)) a e next.turns) goes.ended
-      ∙ cut_in_order m answer a next (with_item s.history (Some made)) alone_after access.processor (sym journal) in
-      let ok = good-next m s.privates a (private_of m s a) next access.processor (omega (arith, shows.all_privates)) here answer s.history
-      (Some made) shows.history_good own (λ i is. subst (λ j. bad_rule m answer s.history j ≡ None) (same_item i is) rule)
-      alone_after.standing.turns_most cut in
-      rw (changes.history, changes.privates) ok
-    where
-      same_item : (i : Item) → Some made ≡ Some i → made ≡ i
-      same_item i is = cc
+      good-made m answer s t a name value next made shows within access.processor changes stays.own refl rule alone_after
+      goes.ended
 
   acts : (q : ℕ) → q < m.nodes → word_at m t (word.Act q) ≡ act_of (private_of m t q)
   acts q nodes =

@@ -7,7 +7,8 @@ use Rattle.plat_base.specs.Verdicts.{Answer}
 use Rattle.plat_base.specs.Machine.{Machine}
 use Rattle.plat_base.specs.Alike.{same_verdict}
 use Rattle.plat_base.specs.Copies.{copy_on}
-use Rattle.plat_base.specs.Decide.{row_of, row_does, decide, asks, moves_page, frozen_after, is_empty, is_dir, is_frame_on, is_some_frame, fits_cause, may_decide}
+use Rattle.plat_base.specs.Decide.{row_of, row_does, decide, asks, moves_page, frozen_after, is_empty, is_dir, is_frame_on, is_some_frame}
+use Rattle.plat_base.specs.Decide.{fits_cause, may_decide}
 use Rattle.plat_base.specs.declared.frames.Frame.{Frame}
 use Rattle.plat_base.specs.declared.frames.Dir.{Dir}
 use Rattle.plat_base.specs.declared.frames.State.{State}
@@ -17,7 +18,8 @@ use Rattle.plat_base.specs.declared.items.Cause.TheVariants as cause
 use Rattle.plat_base.specs.declared.items.Removed.{Removed}
 use Rattle.plat_base.specs.declared.items.Removed.TheVariants as removed
 use Rattle.plat_base.specs.declared.policies.Verdict.TheVariants as verdict
-use Rattle.plat_events.specs.Sessions.{Course, Phase, Stamping, Seeking, Taking, Returning, Shooting, Filling, Reading, Copying, Giving, Storing, Granting, Unlocking, Session, decision_of}
+use Rattle.plat_events.specs.Sessions.{Course, Phase, Stamping, Seeking, Taking, Returning, Shooting, Filling, Reading, Copying, Giving}
+use Rattle.plat_events.specs.Sessions.{Storing, Granting, Unlocking, Session, decision_of}
 use Rattle.plat_events.specs.Privates.{Private}
 use Rattle.plat_events.specs.Standings.{course_of, is_quiet, words_filled, word_copied}
 use Rattle.plat_local_laws.specs.Phases.{CourseOk, PhaseOk, copies_words}

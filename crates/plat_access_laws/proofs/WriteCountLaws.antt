@@ -1,10 +1,12 @@
 -- how often a word was written: less often than all processors may make turns, where one has an operation still to make
-use Rattle.std.specs.Prelude.{◌≡◌, ◌≢◌, ◌⊎◌, ℕ, zero, suc, ◌+◌, ◌*◌, ◌<◌, ◌≤◌, ◌==◌, ◌&&◌, ◌||◌, not, if◌then◌else◌, cond, nat_lt, Bool, true, false, List, [], ◌∷◌, ◌++◌, None, sum_by, count_by}
+use Rattle.std.specs.Prelude.{◌≡◌, ◌≢◌, ◌⊎◌, ℕ, zero, suc, ◌+◌, ◌*◌, ◌<◌, ◌≤◌, ◌==◌, ◌&&◌, ◌||◌, not, if◌then◌else◌, cond, nat_lt, Bool}
+use Rattle.std.specs.Prelude.{true, false, List, [], ◌∷◌, ◌++◌, None, sum_by, count_by}
 use Rattle.std.proofs.Common.{refl, ap, inl, inr, arith}
 use Rattle.std.specs.List.{fold, list_all, range_with_len}
 use Rattle.std.proofs.lemmas.Bool.{and_parts, cases_eq, eq-eqb}
 use Rattle.std.proofs.lemmas.Bool.Decides.{nat_tests}
 use Rattle.std.proofs.lemmas.List.Sums.{sum_by-cons}
+use Rattle.plat_base.specs.Items.{is_access}
 use Rattle.plat_base.specs.Verdicts.{Answer}
 use Rattle.plat_base.specs.Machine.{Machine}
 use Rattle.plat_base.specs.Pages.{numbers}
@@ -14,7 +16,7 @@ use Rattle.plat_base.specs.Decide.{is_frame}
 use Rattle.plat_base.specs.declared.items.Item.{Item}
 use Rattle.plat_base.specs.declared.items.Item.TheVariants as item
 use Rattle.plat_laws.specs.Guests.{IsWithinLimits}
-use Rattle.plat_laws.proofs.AccessLaws.{both_here, access_parts}
+use Rattle.plat_laws.proofs.AccessLaws.{access_parts}
 use Rattle.plat_events.specs.Privates.{actor_count}
 use Rattle.plat_events.specs.Kept.{private_of}
 use Rattle.plat_events.specs.Runs.{Fine, ends_of}
@@ -22,12 +24,11 @@ use Rattle.plat_events.specs.Shown.{actor_of, items_by, bit_of, Shows}
 use Rattle.plat_local_laws.specs.Numbers.{is_in_turn, is_operation}
 use Rattle.plat_local_laws.specs.Alone.{PrivateOk}
 use Rattle.plat_fine_laws.proofs.AloneLaws.{alone_ok}
-use Rattle.plat_fine_laws.proofs.GoodLaws.{good-items}
+use Rattle.plat_frame_laws.proofs.SumLaws.{first}
+use Rattle.plat_base.proofs.RuleLemmas.{bad_at-none}
+use Rattle.plat_laws.proofs.HistoryLaws.{good-items}
 
 -- ---- sums of smaller summands
-
-first : (f : ℕ → ℕ) (a n : ℕ) → sum_by f (range_with_len a (suc n)) ≡ f a + sum_by f (range_with_len (a + 1) n)
-first f a n = sum_by-cons f a (range_with_len (a + 1) n)
 
 range-less :
     (g h : ℕ → ℕ) (a n : ℕ) → ((q : ℕ) → a ≤ q → q < a + n → g q ≤ h q) →
@@ -94,12 +95,6 @@ writes-operation page w (item.Switch x) h = absurd cc
 
 -- ---- accesses are made by processors
 
-abbrev is_access : Item → Bool
-is_access (item.Access x) = true
-is_access (item.Change c) = false
-is_access (item.Applied x) = false
-is_access (item.Switch x) = false
-
 -- the item is no access, or a processor's
 abbrev is_by_node : ℕ → Item → Bool
 is_by_node n i = not (is_access i) || nat_lt (actor_of i) n
@@ -115,7 +110,7 @@ all-by_node :
     list_all (is_by_node m.nodes) items ≡ true
 all-by_node m answer before k [] good = refl
 all-by_node m answer before k (i ∷ is) good =
-    let parts = both_here k (bad_rule m answer before i) (bad_after m answer (before ++ i ∷ []) (k + 1) is) good in
+    let parts = bad_at-none k (bad_rule m answer before i) (bad_after m answer (before ++ i ∷ []) (k + 1) is) good in
     rw (one i parts.0) (all-by_node m answer (before ++ i ∷ []) (k + 1) is parts.1)
   where
     one : (i : Item) → bad_rule m answer before i ≡ None → is_by_node m.nodes i ≡ true

@@ -29,11 +29,13 @@ use Rattle.plat_local_laws.specs.Phases.{SessionOk}
 use Rattle.plat_fine_laws.specs.Changes.{Changes, KeepsPage, KeepsFlat, ShowsFlat}
 use Rattle.plat_fine_laws.proofs.WordLaws.{word_at-new, word_at-other}
 use Rattle.plat_fine_laws.proofs.SessionLaws.{RunsOn, runs_on-actor}
-use Rattle.plat_fine_laws.proofs.TableFacts.{same_frame-same, is_copy_of-on}
+use Rattle.plat_fine_laws.proofs.TableFacts.{is_copy_of-on}
 use Rattle.plat_frame_laws.proofs.FrameUseLaws.{page_uses, used-apart, kept-uses, unused-kept, unused-hand}
 use Rattle.plat_frame_laws.proofs.HandLaws.{HandOk, running-ok, running-page, hand-machine, kept-frame}
 use Rattle.plat_frame_laws.proofs.StoreLaws.{memory_frame, memory-named}
 use Rattle.plat_access_laws.proofs.ModifiedLaws.{filled-quiet, copied-quiet, hand-removes, copied-removes}
+use Rattle.plat_laws.proofs.Limits.{and-left}
+use Rattle.plat_laws.proofs.SameLaws.{same_frame-true}
 
 -- a modified page has one copy
 one-copy :
@@ -42,15 +44,11 @@ one-copy :
 one-copy m dir f g fits modified copy other =
     let on = is_copy_of-on 0 dir.copies f (dir_parts m dir fits).1 copy in
     let only = only_copy m dir f fits modified on in
-    same_frame-same g f (first (same_frame g f) (ap (λ fs. is_copy_of fs g) (sym only.1) ∙ other))
+    same_frame-true g f (first (same_frame g f) (ap (λ fs. is_copy_of fs g) (sym only.1) ∙ other))
   where
     first : (b : Bool) → (b || false) ≡ true → b ≡ true
     first true h = refl
     first false h = absurd cc
-
-kept-copy : (b d : Bool) → (b && d) ≡ true → b ≡ true
-kept-copy true d h = refl
-kept-copy false d h = absurd cc
 
 -- a quiet session on the page removes nothing
 abbrev pub RemovesNothing : Machine → Answer → Fine → (page : ℕ) → Type 0
@@ -94,7 +92,7 @@ module _ (m : Machine) (answer : Answer) (s t : Fine) (a page w value : ℕ) (f 
     (silent : RemovesNothing m answer s page) (new : value ≡ flat_word m t.history page w)
     (flats : (q v : ℕ) → (q ≡ page → v ≡ w → ⊥) → KeepsFlat m s t q v) where
   copy : is_copy_of (dir_of s.history page).copies f ≡ true
-  copy = kept-copy (is_copy_of (dir_of s.history page).copies f) (not (gave_back m answer (session_on s.privates page) f)) kept
+  copy = and-left (is_copy_of (dir_of s.history page).copies f) (not (gave_back m answer (session_on s.privates page) f)) kept
 
   frame : is_frame m f ≡ true
   frame = kept-frame m answer s page f shows page_below copy
@@ -126,7 +124,7 @@ module _ (m : Machine) (answer : Answer) (s t : Fine) (a page w value : ℕ) (f 
   kept-flat q v g q_below v_below is = by (cases_eq q page) (cases_eq v w)
     where
       held : is_copy_of (dir_of s.history q).copies g ≡ true
-      held = kept-copy (is_copy_of (dir_of s.history q).copies g) (not (gave_back m answer (session_on s.privates q) g)) is
+      held = and-left (is_copy_of (dir_of s.history q).copies g) (not (gave_back m answer (session_on s.privates q) g)) is
 
       still : (g ≡ f → v ≡ w → ⊥) → (q ≡ page → v ≡ w → ⊥) → frame_word m t g v ≡ flat_word m t.history q v
       still frames words =

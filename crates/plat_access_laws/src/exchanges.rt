@@ -12,7 +12,8 @@ use plat_base::{Config, Policy};
 /// state holds on behind every exchange of a data word, whether it finds the word that the processor saw before, and writes,
 /// or another one.
 pub fn any_policy_writes<P: Policy>(cfg: &Config, policy: &P)
-    ensures { (s : Fine) (a seen : ℕ) → Shows (machine cfg.now) (P.answer policy.now) s → a < actor_count (machine cfg.now)
+    ensures { (s : Fine) (a seen : ℕ) → Shows (machine cfg.now) (P.answer policy.now) s →
+        a < actor_count (machine cfg.now)
         → (private_of (machine cfg.now) s a).place ≡ Exchanging seen
         → Shows (machine cfg.now) (P.answer policy.now) (event (machine cfg.now) (P.answer policy.now) s a) }
 {}

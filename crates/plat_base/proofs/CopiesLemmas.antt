@@ -1,5 +1,6 @@
 -- the copies of a page, as a list of frames of rising module
-use Rattle.std.proofs.Common.{◌≡◌, ℕ, ◌+◌, ◌<◌, ◌≤◌, if◌then◌else◌, Bool, true, false, List, [], ◌∷◌, length, Option, Some, None, refl, arith}
+use Rattle.std.proofs.Common.{◌≡◌, ℕ, ◌+◌, ◌<◌, ◌≤◌, if◌then◌else◌, Bool, true, false, List, [], ◌∷◌, length, Option, Some, None, refl}
+use Rattle.std.proofs.Common.{arith}
 use Rattle.std.specs.Prelude.{IsTrue, ◌==◌}
 use Rattle.std.specs.List.{Contains}
 use Rattle.std.proofs.lemmas.Bool.Decides.{nat_tests}
@@ -14,11 +15,13 @@ pub are_copies-lower : (low high : ℕ) (fs : List Frame) → low ≤ high → I
 are_copies-lower low high [] h k = refl
 are_copies-lower low high (f ∷ fs) h k = grind (arith, nat_tests)
 
-pub are_copies-with_frame : (low : ℕ) (f : Frame) (fs : List Frame) → low ≤ f.module → f.module < 8 → f.number < 64 → IsTrue (are_copies_from low fs) → IsTrue (are_copies_from low (with_frame f fs))
+pub are_copies-with_frame : (low : ℕ) (f : Frame) (fs : List Frame) → low ≤ f.module → f.module < 8 → f.number < 64 →
+    IsTrue (are_copies_from low fs) → IsTrue (are_copies_from low (with_frame f fs))
 are_copies-with_frame low f [] h m n k = grind (arith, nat_tests)
 are_copies-with_frame low f (g ∷ gs) h m n k = grind (arith, nat_tests, are_copies-with_frame (g.module + 1) f gs)
 
-pub are_copies-without_module : (low m : ℕ) (fs : List Frame) → IsTrue (are_copies_from low fs) → IsTrue (are_copies_from low (without_module m fs))
+pub are_copies-without_module : (low m : ℕ) (fs : List Frame) → IsTrue (are_copies_from low fs) →
+    IsTrue (are_copies_from low (without_module m fs))
 are_copies-without_module low m [] h = refl
 are_copies-without_module low m (f ∷ fs) h =
     grind (arith, nat_tests, are_copies-without_module (f.module + 1) m fs, are_copies-lower low (f.module + 1) (without_module m fs))
@@ -39,7 +42,8 @@ pub copy_on-module : (m : ℕ) (f : Frame) (fs : List Frame) → copy_on m fs �
 copy_on-module m f [] h = absurd cc
 copy_on-module m f (g ∷ gs) h = grind (arith, nat_tests, copy_on-module m f gs)
 
-Contains-by_head : (g f : Frame) (gs : List Frame) (here : Bool) (later : Option Frame) → (if here then Some g else later) ≡ Some f → (later ≡ Some f → Contains gs f) → Contains (g ∷ gs) f
+Contains-by_head : (g f : Frame) (gs : List Frame) (here : Bool) (later : Option Frame) → (if here then Some g else later) ≡ Some f →
+    (later ≡ Some f → Contains gs f) → Contains (g ∷ gs) f
 Contains-by_head g f gs true later h k = (0, omega arith, cc)
 Contains-by_head g f gs false later h k = Contains-append_right (g ∷ []) gs f (k h)
 

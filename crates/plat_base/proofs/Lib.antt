@@ -1,5 +1,10 @@
 pub mod SlotLemmas
 pub mod CopiesLemmas
 pub mod NameLemmas
+pub mod ListLemmas
+pub mod RuleLemmas
+pub mod ChoiceLemmas
+pub mod EntryLemmas
+pub mod EntryLimits
 pub mod LimitLemmas
 pub mod RoomLemmas

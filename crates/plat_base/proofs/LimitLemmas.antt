@@ -1,10 +1,11 @@
 -- what the limits of a machine text say, one fact at a time: of a machine, and of a Config
-use Rattle.std.proofs.Common.{◌≡◌, ℕ, ◌<◌, ◌≤◌, Bool, false, List, [], ◌∷◌, length, get_or, zero, suc, refl, arith}
+use Rattle.std.proofs.Common.{◌≡◌, ℕ, ◌<◌, ◌≤◌, Bool, false, List, [], ◌∷◌, length, get_or, zero, suc, refl, arith, ap, ◌++◌}
 use Rattle.std.specs.Prelude.{IsTrue, Some, ◌==◌, ◌&&◌, slice_get, slice_index_or, unwrap_or, find}
 use Rattle.std.specs.Option.{option_map}
 use Rattle.std.specs.List.{list_all}
 use Rattle.std.proofs.lemmas.Bool.Decides.{nat_tests}
-use Rattle.plat_base.specs.Machine.{Machine, is_page_size, is_policy, is_schedule, is_distance, is_entry, is_init, is_instr, is_program, limits, is_machine, Program, program_seen, programs_seen, same_nodes, same_place, same_word, all_differ}
+use Rattle.plat_base.specs.Machine.{Machine, is_page_size, is_policy, is_schedule, is_distance, is_entry, is_init, is_instr, is_program}
+use Rattle.plat_base.specs.Machine.{limits, is_machine, Program, program_seen, programs_seen, same_nodes, same_place, same_word, all_differ}
 use Rattle.plat_base.specs.Seen.{machine}
 use Rattle.plat_base.specs.declared.limits.TheConstants.{SPACES}
 use Rattle.plat_base.specs.Pages.{no_program, program_of, initial_value}
@@ -18,13 +19,15 @@ use Rattle.plat_base.specs.declared.guests.GuestText.{GuestText}
 -- ---- places of a list
 
 -- what holds of all holds at a place
-pub holds_at : {T : Type 0} (test : T → Bool) (xs : List T) (i : ℕ) (other : T) → IsTrue (list_all test xs) → i < length xs → IsTrue (test (get_or xs i other))
+pub holds_at : {T : Type 0} (test : T → Bool) (xs : List T) (i : ℕ) (other : T) → IsTrue (list_all test xs) → i < length xs →
+    IsTrue (test (get_or xs i other))
 holds_at test [] i other h k = absurd (omega arith)
 holds_at test (x ∷ xs) zero other h k = grind arith
 holds_at test (x ∷ xs) (suc i) other h k = grind (arith, holds_at test xs i other)
 
 -- what holds of all, and of what a place past the end gives, holds at every place
-pub holds_or : {T : Type 0} (test : T → Bool) (xs : List T) (i : ℕ) (other : T) → IsTrue (list_all test xs) → IsTrue (test other) → IsTrue (test (get_or xs i other))
+pub holds_or : {T : Type 0} (test : T → Bool) (xs : List T) (i : ℕ) (other : T) → IsTrue (list_all test xs) → IsTrue (test other) →
+    IsTrue (test (get_or xs i other))
 holds_or test [] i other h k = k
 holds_or test (x ∷ xs) zero other h k = grind arith
 holds_or test (x ∷ xs) (suc i) other h k = grind (arith, holds_or test xs i other)
@@ -56,7 +59,7 @@ pub record Limits (m : Machine) : Type 0 where
 page_size-least : (n : ℕ) → IsTrue (is_page_size n) → 4 ≤ n
 page_size-least n h = grind (arith, nat_tests)
 
-page_size-most : (n : ℕ) → IsTrue (is_page_size n) → n ≤ 64
+pub page_size-most : (n : ℕ) → IsTrue (is_page_size n) → n ≤ 64
 page_size-most n h = grind (arith, nat_tests)
 
 at : (m : Machine) (i : ℕ) → IsTrue (is_machine m) → i < 15 → IsTrue (get_or (limits m) i false)
@@ -112,15 +115,18 @@ page_below m e d h l = let within = holds_at (is_entry m.pages) m.entries e d (l
 pub space_below : (m : Machine) (e : ℕ) (d : Entry) → IsTrue (is_machine m) → e < length m.entries → (get_or m.entries e d).space < SPACES
 space_below m e d h l = let within = holds_at (is_entry m.pages) m.entries e d (limits_of m h).entries l in grind (arith, nat_tests, within)
 
-is_instr-at : (labels : ℕ) (code : List Instr) (at : ℕ) (i : Instr) → IsTrue (list_all (is_instr labels) code) → slice_get code at ≡ Some i → IsTrue (is_instr labels i)
+is_instr-at : (labels : ℕ) (code : List Instr) (at : ℕ) (i : Instr) → IsTrue (list_all (is_instr labels) code) →
+    slice_get code at ≡ Some i → IsTrue (is_instr labels i)
 is_instr-at labels [] at i h e = absurd cc
 is_instr-at labels (c ∷ cs) zero i h e = grind arith
 is_instr-at labels (c ∷ cs) (suc at) i h e = grind (arith, is_instr-at labels cs at i)
 
-pub at_instr : (p : Program) (at : ℕ) (i : Instr) → IsTrue (is_program p) → slice_get p.code at ≡ Some i → IsTrue (is_instr (length p.labels) i)
+pub at_instr : (p : Program) (at : ℕ) (i : Instr) → IsTrue (is_program p) → slice_get p.code at ≡ Some i →
+    IsTrue (is_instr (length p.labels) i)
 at_instr p at i h e = is_instr-at (length p.labels) p.code at i (grind arith) e
 
-initial_value-below_of : (pages words page word : ℕ) (inits : List Init) → IsTrue (list_all (is_init pages words) inits) → unwrap_or (option_map (λ (i : Init). i.value) (find (λ i. i.page == page && i.word == word) inits)) 0 < 4294967296
+initial_value-below_of : (pages words page word : ℕ) (inits : List Init) → IsTrue (list_all (is_init pages words) inits) →
+    unwrap_or (option_map (λ (i : Init). i.value) (find (λ i. i.page == page && i.word == word) inits)) 0 < 4294967296
 initial_value-below_of pages words page word [] h = omega arith
 initial_value-below_of pages words page word (i ∷ is) h = grind (arith, nat_tests, initial_value-below_of pages words page word is)
 
@@ -168,7 +174,8 @@ pub length-programs_seen : (gs : List GuestText) → length (programs_seen gs) �
 length-programs_seen [] = refl
 length-programs_seen (g ∷ gs) = grind (arith, length-programs_seen gs)
 
-pub programs_seen-at : (gs : List GuestText) (q : ℕ) (other : GuestText) → q < length gs → slice_index_or (programs_seen gs) q no_program ≡ program_seen (get_or gs q other)
+pub programs_seen-at : (gs : List GuestText) (q : ℕ) (other : GuestText) → q < length gs → slice_index_or (programs_seen gs) q no_program
+    ≡ program_seen (get_or gs q other)
 programs_seen-at [] q other h = absurd (omega arith)
 programs_seen-at (g ∷ gs) zero other h = refl
 programs_seen-at (g ∷ gs) (suc q) other h = programs_seen-at gs q other (omega arith)
@@ -176,5 +183,10 @@ programs_seen-at (g ∷ gs) (suc q) other h = programs_seen-at gs q other (omega
 pub guests_count : (cfg : Config) → length cfg.guests.items ≡ cfg.nodes
 guests_count cfg = let l : Limits (machine cfg) = config_limits cfg in omega (arith, l.guests_count, length-programs_seen cfg.guests.items)
 
-pub program_of-guest : (cfg : Config) (q : ℕ) (other : GuestText) → q < cfg.nodes → program_of (machine cfg) q ≡ program_seen (get_or cfg.guests.items q other)
+pub program_of-guest : (cfg : Config) (q : ℕ) (other : GuestText) → q < cfg.nodes →
+    program_of (machine cfg) q ≡ program_seen (get_or cfg.guests.items q other)
 program_of-guest cfg q other h = programs_seen-at cfg.guests.items q other (omega (arith, guests_count cfg))
+
+pub programs_seen-push : (gs : List GuestText) (g : GuestText) → programs_seen (gs ++ g ∷ []) ≡ programs_seen gs ++ program_seen g ∷ []
+programs_seen-push [] g = refl
+programs_seen-push (x ∷ xs) g = ap (λ ps. program_seen x ∷ ps) (programs_seen-push xs g)

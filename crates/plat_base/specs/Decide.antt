@@ -1,5 +1,6 @@
 -- the table of protocol actions: what happens at a fault or a thaw
-use Rattle.std.specs.Prelude.{ℕ, ◌+◌, ◌==◌, nat_lt, ◌&&◌, ◌||◌, not, if◌then◌else◌, Bool, true, false, List, [], ◌∷◌, length, Option, Some, None, is_some, is_none, unwrap_or}
+use Rattle.std.specs.Prelude.{ℕ, ◌+◌, ◌==◌, nat_lt, ◌&&◌, ◌||◌, not, if◌then◌else◌, Bool, true, false, List, [], ◌∷◌, length, Option, Some}
+use Rattle.std.specs.Prelude.{None, is_some, is_none, unwrap_or}
 use Rattle.std.specs.List.{fold, list_all}
 use Rattle.plat_base.specs.Verdicts.{Answer}
 use Rattle.plat_base.specs.Machine.{Machine}
@@ -117,7 +118,8 @@ row_does m ReadCopyDirty dir frozen node got =
 row_does m WriteFill dir frozen node got =
     let f = unwrap_or got no_frame in decision action.Fill removed.Nothing (after_with state.Modified frozen (f ∷ [])) false f
 row_does m WriteLocal dir frozen node got =
-    decision action.MapLocal removed.Nothing (after_with state.Modified frozen dir.copies) false (unwrap_or (copy_on node dir.copies) no_frame)
+    decision action.MapLocal removed.Nothing (after_with state.Modified frozen dir.copies) false
+    (unwrap_or (copy_on node dir.copies) no_frame)
 row_does m WriteRemote dir frozen node got =
     decision action.MapRemote removed.Nothing (after_with state.Modified frozen dir.copies) false (nearest m node dir.copies)
 row_does m WriteMove dir frozen node got =
@@ -136,7 +138,8 @@ row_does m Thawed dir frozen node got =
 abbrev pub decide : Machine → Answer → Dir → Option ℕ → (now node : ℕ) → Cause → Option Frame → Decision
 decide m answer dir last now node cause got =
     let v = answer dir last now
-    in row_does m (row_of cause dir.state (is_some (copy_on node dir.copies)) (moves_page v got)) dir (frozen_after (asks cause dir node) v dir.frozen) node got
+    in row_does m (row_of cause dir.state (is_some (copy_on node dir.copies)) (moves_page v got)) dir
+    (frozen_after (asks cause dir node) v dir.frozen) node got
 
 -- ---- when a decision may be asked for
 

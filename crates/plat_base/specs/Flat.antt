@@ -1,6 +1,7 @@
 -- flat memory: the value of each word, and how often it was written
 use Rattle.std.specs.Prelude.{ℕ, ◌+◌, ◌==◌, ◌&&◌, if◌then◌else◌, Bool, true, false, List}
 use Rattle.std.specs.List.{fold}
+use Rattle.plat_base.specs.Items.{is_access_that}
 use Rattle.plat_base.specs.Machine.{Machine}
 use Rattle.plat_base.specs.Pages.{initial_value}
 use Rattle.plat_base.specs.declared.items.Item.{Item}
@@ -14,10 +15,7 @@ is_write kind.Store = true
 is_write kind.Add = true
 
 abbrev pub writes_word : (page word : ℕ) → Item → Bool
-writes_word page word (item.Access a) = is_write a.kind && a.page == page && a.word == word
-writes_word page word (item.Change c) = false
-writes_word page word (item.Applied x) = false
-writes_word page word (item.Switch s) = false
+writes_word page word = is_access_that (λ a. is_write a.kind && a.page == page && a.word == word)
 
 abbrev pub written : Item → ℕ
 written (item.Access a) = a.new

@@ -1,5 +1,6 @@
 -- the run of one guest on the values that its loads and fetch-and-adds get
-use Rattle.std.specs.Prelude.{ℕ, zero, suc, ◌+◌, ◌-◌, ◌*◌, ◌/◌, ◌%◌, ◌^◌, ◌==◌, nat_lt, bit_and, if◌then◌else◌, List, [], ◌∷◌, ◌++◌, Option, Some, None, is_some, replicate, slice_get, slice_index, slice_index_or, slice_set}
+use Rattle.std.specs.Prelude.{ℕ, zero, suc, ◌+◌, ◌-◌, ◌*◌, ◌/◌, ◌%◌, ◌^◌, ◌==◌, nat_lt, bit_and, if◌then◌else◌, List, [], ◌∷◌, ◌++◌, Option}
+use Rattle.std.specs.Prelude.{Some, None, is_some, replicate, slice_get, slice_index, slice_index_or, slice_set}
 use Rattle.plat_base.specs.Machine.{Machine, Program}
 use Rattle.plat_base.specs.Pages.{program_of, entry_at, page_of, entry_reached}
 use Rattle.plat_base.specs.declared.guests.Instr.{Instr}

@@ -1,6 +1,7 @@
 -- the translations that a processor holds, and the space that it is active in, by its own items
 use Rattle.std.specs.Prelude.{ℕ, ◌==◌, nat_lt, ◌&&◌, if◌then◌else◌, Bool, true, false, List, Option, Some, None}
 use Rattle.std.specs.List.{fold, list_any}
+use Rattle.plat_base.specs.Items.{is_change_that}
 use Rattle.plat_base.specs.Machine.{Machine}
 use Rattle.plat_base.specs.Pages.{page_of, program_of}
 use Rattle.plat_base.specs.Alike.{same_removed}
@@ -92,10 +93,7 @@ removes_writes r = same_removed r removed.Writes
 
 -- a change of the page, of a greater number, that removed what the test names
 abbrev pub is_later_change : (Removed → Bool) → (page seq : ℕ) → Item → Bool
-is_later_change test page seq (item.Access a) = false
-is_later_change test page seq (item.Change c) = c.page == page && nat_lt seq c.seq && test c.removed
-is_later_change test page seq (item.Applied x) = false
-is_later_change test page seq (item.Switch s) = false
+is_later_change test page seq = is_change_that (λ c. c.page == page && nat_lt seq c.seq && test c.removed)
 
 abbrev pub later : (Removed → Bool) → List Item → (page seq : ℕ) → Bool
 later test items page seq = list_any (is_later_change test page seq) items

@@ -7,7 +7,9 @@ pub mod Verdicts
 pub mod Machine
 pub mod Seen
 pub mod Pages
+pub mod Indexed
 pub mod GuestRun
+pub mod Items
 pub mod Flat
 pub mod Directories
 pub mod Held

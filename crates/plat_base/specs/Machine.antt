@@ -3,7 +3,8 @@ use Rattle.std.specs.Prelude.{ℕ, Bool, true, not, ◌&&◌, ◌==◌, nat_le, 
 use Rattle.std.specs.List.{list_all, list_any}
 use Rattle.plat_base.specs.Roomy.{Roomy}
 use Rattle.plat_base.specs.Labels.{is_label_name}
-use Rattle.plat_base.specs.declared.limits.TheConstants.{MODULES, FRAMES, PAGES, SPACES, VIRTUAL_PAGES, REGISTERS, BUDGET, INSTRUCTIONS, LABELS, LISTED}
+use Rattle.plat_base.specs.declared.limits.TheConstants.{MODULES, FRAMES, PAGES, SPACES, VIRTUAL_PAGES, REGISTERS, BUDGET, INSTRUCTIONS}
+use Rattle.plat_base.specs.declared.limits.TheConstants.{LABELS, LISTED}
 use Rattle.plat_base.specs.declared.policies.PolicyKind.{PolicyKind}
 use Rattle.plat_base.specs.declared.policies.PolicyKind.TheVariants as policy
 use Rattle.plat_base.specs.declared.configs.Plan.{Plan}
@@ -12,7 +13,8 @@ use Rattle.plat_base.specs.declared.configs.Distance.{Distance}
 use Rattle.plat_base.specs.declared.configs.Entry.{Entry}
 use Rattle.plat_base.specs.declared.configs.Init.{Init}
 use Rattle.plat_base.specs.declared.guests.Instr.{Instr}
-use Rattle.plat_base.specs.declared.guests.Instr.TheVariants.{Set, Move, Add, Sub, Mul, And, Shr, Load, Store, Fadd, Switch, Print, Jump, Zero, Less, Halt}
+use Rattle.plat_base.specs.declared.guests.Instr.TheVariants.{Set, Move, Add, Sub, Mul, And, Shr, Load, Store, Fadd, Switch, Print, Jump}
+use Rattle.plat_base.specs.declared.guests.Instr.TheVariants.{Zero, Less, Halt}
 use Rattle.plat_base.specs.declared.guests.Label.{Label}
 use Rattle.plat_base.specs.declared.guests.GuestText.{GuestText}
 use lib.Pointwise.{pointwise}
@@ -157,7 +159,8 @@ is_spelled l = is_label_name l.name
 
 abbrev pub is_program : Program → Bool
 is_program p =
-    nat_lt p.space SPACES && nat_le (length p.code) INSTRUCTIONS && nat_le (length p.labels) LABELS && list_all (is_instr (length p.labels)) p.code
+    nat_lt p.space SPACES && nat_le (length p.code) INSTRUCTIONS && nat_le (length p.labels) LABELS
+    && list_all (is_instr (length p.labels)) p.code
     && labels_rise 0 (length p.code) p.labels && list_all is_spelled p.labels && all_differ same_name p.labels
 
 abbrev pub limits : Machine → List Bool

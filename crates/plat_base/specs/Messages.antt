@@ -2,6 +2,7 @@
 use Rattle.std.specs.Prelude.{ℕ, ◌==◌, ◌&&◌, not, if◌then◌else◌, Bool, true, false, List, [], ◌∷◌, map, filter, Option, Some, None, is_some}
 use Rattle.std.specs.Option.{option_map}
 use Rattle.std.specs.List.{list_any, filter_map, flat_map}
+use Rattle.plat_base.specs.Items.{is_change_that}
 use Rattle.plat_base.specs.Machine.{Machine}
 use Rattle.plat_base.specs.Pages.{numbers, page_of, space_of, entries_of_page, entries_of_space}
 use Rattle.plat_base.specs.Held.{held, active, is_later_change, removes_all, removes_writes}
@@ -17,10 +18,7 @@ use Rattle.plat_base.specs.Ends.{is_live}
 use Rattle.plat_base.specs.Coarse.{Coarse}
 
 abbrev pub is_owed_for : (Removed → Bool) → (q page seq : ℕ) → Item → Bool
-is_owed_for test q page seq (item.Access a) = false
-is_owed_for test q page seq (item.Change c) = is_later_change test page seq (item.Change c) && not (c.actor == q)
-is_owed_for test q page seq (item.Applied x) = false
-is_owed_for test q page seq (item.Switch s) = false
+is_owed_for test q page seq = is_change_that (λ c. is_later_change test page seq (item.Change c) && not (c.actor == q))
 
 -- a change of the page by another actor, of a greater number, removed what the test names
 abbrev pub by_other : (Removed → Bool) → List Item → (q page seq : ℕ) → Bool

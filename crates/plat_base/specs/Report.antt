@@ -22,7 +22,7 @@ use Rattle.plat_base.specs.declared.items.Access.{Access}
 use Rattle.plat_base.specs.declared.items.Change.{Change}
 use Rattle.plat_base.specs.declared.items.Applied.{Applied}
 use Rattle.plat_base.specs.declared.items.Item.{Item}
-use Rattle.plat_base.specs.declared.items.Item.TheVariants as item
+use Rattle.plat_base.specs.Items.{is_access_that, is_change_that, is_applied_that}
 use Rattle.plat_base.specs.declared.endings.End.{End}
 use Rattle.plat_base.specs.declared.endings.End.TheVariants as end
 use Rattle.plat_base.specs.declared.endings.Ended.{Ended}
@@ -32,24 +32,6 @@ use Rattle.plat_base.specs.declared.endings.Ended.{Ended}
 -- the values that guest q printed, on the values that it got in the history
 abbrev pub printed : Machine → List Item → List Ended → ℕ → List ℕ
 printed m items ends q = (guest_run m q (values_of q items) (ended_of ends q).turns).prints
-
-abbrev pub is_access_that : (Access → Bool) → Item → Bool
-is_access_that test (item.Access a) = test a
-is_access_that test (item.Change c) = false
-is_access_that test (item.Applied x) = false
-is_access_that test (item.Switch s) = false
-
-abbrev pub is_change_that : (Change → Bool) → Item → Bool
-is_change_that test (item.Access a) = false
-is_change_that test (item.Change c) = test c
-is_change_that test (item.Applied x) = false
-is_change_that test (item.Switch s) = false
-
-abbrev pub is_applied_that : (Applied → Bool) → Item → Bool
-is_applied_that test (item.Access a) = false
-is_applied_that test (item.Change c) = false
-is_applied_that test (item.Applied x) = test x
-is_applied_that test (item.Switch s) = false
 
 abbrev pub accesses_that : (Access → Bool) → List Item → ℕ
 accesses_that test items = count_by (is_access_that test) items

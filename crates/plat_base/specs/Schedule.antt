@@ -1,5 +1,6 @@
 -- schedules: which live actor is next
-use Rattle.std.specs.Prelude.{ℕ, zero, suc, ◌+◌, ◌-◌, ◌*◌, ◌/◌, ◌%◌, ◌^◌, ◌==◌, nat_lt, bit_xor, if◌then◌else◌, List, [], ◌∷◌, length, find, filter, Option, Some, None, slice_get}
+use Rattle.std.specs.Prelude.{ℕ, zero, suc, ◌+◌, ◌-◌, ◌*◌, ◌/◌, ◌%◌, ◌^◌, ◌==◌, nat_lt, bit_xor, if◌then◌else◌, List, [], ◌∷◌, length, find}
+use Rattle.std.specs.Prelude.{filter, Option, Some, None, slice_get}
 use Rattle.std.specs.List.{list_any}
 use Rattle.plat_base.specs.Verdicts.{Answer}
 use Rattle.plat_base.specs.Machine.{Machine, Turns, robin, random, listed}
@@ -58,18 +59,18 @@ abbrev pub listed_choice : List ℕ → List ℕ → Option (ℕ × List ℕ)
 listed_choice live [] = None
 listed_choice live (a ∷ more) = if list_any (λ b. b == a) live then Some (a, more) else listed_choice live more
 
-abbrev pub chosen : Chooser → List ℕ → ℕ → Option ℕ → Option (ℕ × Chooser)
-chosen c left seed None = None
-chosen c left seed (Some a) = Some (a, record { last = Some a; left = left; random = seed })
+abbrev pub chosen : List ℕ → ℕ → Option ℕ → Option (ℕ × Chooser)
+chosen left seed None = None
+chosen left seed (Some a) = Some (a, record { last = Some a; left = left; random = seed })
 
 abbrev pub listed_or_robin : Chooser → List ℕ → Option (ℕ × List ℕ) → Option (ℕ × Chooser)
-listed_or_robin c live None = chosen c [] c.random (robin_choice c.last live)
-listed_or_robin c live (Some x) = chosen c x.1 c.random (Some x.0)
+listed_or_robin c live None = chosen [] c.random (robin_choice c.last live)
+listed_or_robin c live (Some x) = chosen x.1 c.random (Some x.0)
 
 -- the next actor of a schedule among the live ones, which stand in rising number; none where nobody is live
 abbrev pub choose : Turns → List ℕ → Chooser → Option (ℕ × Chooser)
-choose robin live c = chosen c [] c.random (robin_choice c.last live)
-choose (random a b) live c = chosen c [] (next_random b c.random) (slice_get live (random_word c.random % length live))
+choose robin live c = chosen [] c.random (robin_choice c.last live)
+choose (random a b) live c = chosen [] (next_random b c.random) (slice_get live (random_word c.random % length live))
 choose (listed actors) [] c = None
 choose (listed actors) (a ∷ more) c = listed_or_robin c (a ∷ more) (listed_choice (a ∷ more) c.left)
 

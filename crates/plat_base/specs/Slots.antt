@@ -27,12 +27,14 @@ pub record AreSlots (slots : List ℕ) : Type 0 where
   pub within : IsTrue (list_all (λ s. nat_le s 64) slots)
 
 -- a module below those of the frames has no slot
-slots_from-below : (m n k : ℕ) (ss : List ℕ) → m < n → slots_from m (suc k) (frames_from n ss) ≡ 64 ∷ slots_from (m + 1) k (frames_from n ss)
+slots_from-below : (m n k : ℕ) (ss : List ℕ) → m < n → slots_from m (suc k) (frames_from n ss)
+    ≡ 64 ∷ slots_from (m + 1) k (frames_from n ss)
 slots_from-below m n k [] h = refl
 slots_from-below m n k (s ∷ ss) h = grind (arith, nat_tests, slots_from-below m (n + 1) k ss)
 
 -- the slots give back what the frames were made of
-pub slots_from-frames_from : (m : ℕ) (ss : List ℕ) → IsTrue (list_all (λ s. nat_le s 64) ss) → slots_from m (length ss) (frames_from m ss) ≡ ss
+pub slots_from-frames_from : (m : ℕ) (ss : List ℕ) → IsTrue (list_all (λ s. nat_le s 64) ss) → slots_from m (length ss) (frames_from m ss)
+    ≡ ss
 slots_from-frames_from m [] h = refl
 slots_from-frames_from m (s ∷ ss) h = grind (arith, nat_tests, slots_from-below m (m + 1) (length ss) ss, slots_from-frames_from (m + 1) ss)
 
@@ -41,4 +43,5 @@ slots_back ss h = subst (λ (k : ℕ). slots_from 0 k (frames_from 0 ss) ≡ ss)
 
 -- the same frames is an equivalence
 pub same_frames_equiv : IsEquivalence same_frames
-same_frames_equiv = lists_equiv (and_equiv (on_equiv (λ (f : Frame). f.module) nat_eq_equiv) (on_equiv (λ (f : Frame). f.number) nat_eq_equiv))
+same_frames_equiv = lists_equiv
+    (and_equiv (on_equiv (λ (f : Frame). f.module) nat_eq_equiv) (on_equiv (λ (f : Frame). f.number) nat_eq_equiv))

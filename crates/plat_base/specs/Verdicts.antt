@@ -24,7 +24,8 @@ policy_answer (Platinum t1 t2) dir last now =
     if dir.frozen then Stay else if is_recent t1 last now then Freeze else Move
 
 -- a frozen page is not frozen again
-pub policy_answer-frozen : (p : PolicyKind) (dir : Dir) (last : Option ℕ) (now : ℕ) → IsTrue dir.frozen → policy_answer p dir last now ≢ Freeze
+pub policy_answer-frozen : (p : PolicyKind) (dir : Dir) (last : Option ℕ) (now : ℕ) → IsTrue dir.frozen →
+    policy_answer p dir last now ≢ Freeze
 policy_answer-frozen Place dir last now h = λ e. cc
 policy_answer-frozen Replicate dir last now h = λ e. cc
 policy_answer-frozen (Platinum t1 t2) dir last now h = grind arith

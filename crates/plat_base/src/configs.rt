@@ -3,6 +3,7 @@ ghost use Rattle.std.specs.Prelude.{IsTrue};
 ghost use Rattle.plat_base.specs.Machine.{machine_of, is_machine};
 ghost use Rattle.plat_base.specs.Canon.{is_short};
 
+use crate::entries::Entries;
 use crate::guests::GuestText;
 use crate::lists::List;
 use crate::policies::PolicyKind;
@@ -62,10 +63,12 @@ pub struct Config {
     pub budget: u32,
     pub schedule: Plan,
     pub distances: List<Distance>,
-    pub entries: List<Entry>,
+    pub entries: Entries,
     pub inits: List<Init>,
     /// One guest for each node.
     pub guests: List<GuestText>,
-    pub ghost limits: { IsTrue (is_machine (machine_of nodes frames words pages policy budget schedule distances entries inits guests)) },
-    pub ghost short: { IsTrue (is_short (machine_of nodes frames words pages policy budget schedule distances entries inits guests)) },
+    pub ghost limits: { IsTrue (is_machine (machine_of nodes frames words pages policy budget schedule distances
+        entries inits guests)) },
+    pub ghost short: { IsTrue
+        (is_short (machine_of nodes frames words pages policy budget schedule distances entries inits guests)) },
 }

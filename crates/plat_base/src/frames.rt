@@ -46,7 +46,8 @@ impl Model for Copies {
 
     ghost inverse = { λ frames. record { slots = slots_from 0 8 frames } };
 
-    ghost inverse_ok = { λ a h. ap (λ (s : List ℕ). let r : Inside = record { slots = s } in r) (slots_back a.slots h) };
+    ghost inverse_ok = { λ a h. ap (λ (s : List ℕ). let r : Inside = record { slots = s } in
+        r) (slots_back a.slots h) };
 }
 
 /// What a slot holds where its module has no copy.

@@ -29,9 +29,13 @@ impl Model for Journals {
 
     ghost Value = { JournalsSeen };
 
-    ghost view = { λ it. record { rooms = replicate it.nodes it.processor_room ++ option_to_list it.daemon_room; lists = lists_seen it.lists.items } };
+    ghost view = { λ it. record {
+      rooms = replicate it.nodes it.processor_room ++ option_to_list it.daemon_room;
+      lists = lists_seen it.lists.items;
+    } };
 
-    ghost invariant = { λ it. IsTrue (fit_rooms (replicate it.nodes it.processor_room ++ option_to_list it.daemon_room) (lists_seen it.lists.items)) };
+    ghost invariant = { λ it. IsTrue (fit_rooms (replicate it.nodes it.processor_room ++ option_to_list it.daemon_room)
+        (lists_seen it.lists.items)) };
 }
 
 /// How many items the daemon's journal may have, where the policy has a daemon.
@@ -48,7 +52,8 @@ impl Journals {
     /// Empty journals for the actors of `cfg`.
     pub fn new(alloc: Global, cfg: &Config) -> Result<Journals, OutOfMemory>
         ensures rooms { IfOk result (λ journals. journals.rooms ≡ journal_rooms (machine cfg.now)) }
-        ensures empty { IfOk result (λ journals. journals.lists ≡ map (λ _. []) (journal_rooms (machine cfg.now))) }
+        ensures empty { IfOk result (λ journals. journals.lists
+            ≡ map (λ _. []) (journal_rooms (machine cfg.now))) }
     {
         let daemon_room = daemon_room(cfg);
         let actors = cfg.nodes + u32::from(daemon_room.is_some());

@@ -19,6 +19,7 @@ pub mod words;
 
 pub use configs::{Config, Distance, Entry, Init, Plan};
 pub use endings::{End, Ended, Finished};
+pub use entries::Entries;
 pub use faults::{OutOfMemory, Refused, TextFault, Why};
 pub use frames::{Copies, Dir, Frame, State};
 pub use guests::{GuestText, Instr, Label, Want};
@@ -28,8 +29,8 @@ pub use items::{
 };
 pub use journals::Journals;
 pub use limits::{
-    ACTORS, BUDGET, FRAMES, INSTRUCTIONS, LABELS, LISTED, MODULES, MOST_ITEMS, MOST_TURNS, PAGES,
-    REGISTERS, SPACES, VIRTUAL_PAGES,
+    ACTORS, BUDGET, ENTRIES, FRAMES, INSTRUCTIONS, LABELS, LISTED, MODULES, MOST_ITEMS, MOST_TURNS,
+    PAGES, REGISTERS, SPACES, VIRTUAL_PAGES,
 };
 pub use lists::List;
 pub use names::Name;

@@ -12,6 +12,8 @@ pub const PAGES: u32 = 64;
 pub const SPACES: u32 = 8;
 /// The number of virtual pages in a space; they are numbered from 0.
 pub const VIRTUAL_PAGES: u32 = 64;
+/// The most entries of the address maps: one for each virtual page of each space.
+pub const ENTRIES: u32 = SPACES * VIRTUAL_PAGES;
 /// The number of registers of a processor.
 pub const REGISTERS: u32 = 16;
 /// The most turns that a processor may be given.

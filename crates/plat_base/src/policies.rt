@@ -30,7 +30,8 @@ pub trait Policy {
     fn verdict(&self, dir: &Dir, last: Option<u32>, now: u32) -> Verdict
         ensures { result ≡ answer self.now dir.now last now };
 
-    ghost frozen_stays: { (p : Self) (dir : Dir) (last : Option ℕ) (now : ℕ) → IsTrue dir.frozen → answer p dir last now ≢ verdict.Freeze };
+    ghost frozen_stays: { (p : Self) (dir : Dir) (last : Option ℕ) (now : ℕ) → IsTrue dir.frozen →
+        answer p dir last now ≢ verdict.Freeze };
 }
 
 /// The policies that a machine text can name. A tick is one turn of any processor.

@@ -18,6 +18,18 @@ fn frame(node: u32, number: u32) -> Frame
     }
 }
 
+/// An entry of a space.
+fn entry(space: u32, vpage: u32, page: u32) -> Entry {
+    Entry { space, vpage, page }
+}
+
+/// No entries.
+fn no_entries(alloc: Global) -> Result<Entries, OutOfMemory>
+    ensures { IfOk result (λ entries. entries.items ≡ []) }
+{
+    Entries::new(alloc, List::new(alloc))
+}
+
 /// A machine of one node and one page, whose guest has no instruction.
 fn small(alloc: Global) -> Result<Config, OutOfMemory>
     ensures { IfOk result (λ cfg. journal_rooms (machine cfg) ≡ 256 ∷ 1 ∷ []) }
@@ -28,6 +40,7 @@ fn small(alloc: Global) -> Result<Config, OutOfMemory>
         code: List::new(alloc),
         labels: List::new(alloc),
     });
+    let entries = no_entries(alloc)?;
     Ok(Config {
         nodes: 1,
         frames: 1,
@@ -37,7 +50,7 @@ fn small(alloc: Global) -> Result<Config, OutOfMemory>
         budget: 64,
         schedule: Plan::Robin,
         distances: List::new(alloc),
-        entries: List::new(alloc),
+        entries,
         inits: List::new(alloc),
         guests,
     })
@@ -102,5 +115,23 @@ fn journals_keep_each_actors_list(rt: HostRuntime) -> Result<(), Fail> {
     journals.put(1, journal);
     assert_eq!(rt; journals.of(0).len(), 0);
     assert_eq!(rt; journals.of(1).len(), 1);
+    Ok(())
+}
+
+#[test]
+fn entries_are_found_by_place_page_and_space(rt: HostRuntime) -> Result<(), Fail> {
+    let alloc = rt.alloc();
+    let mut list = List::with_room(alloc, 3)?;
+    list.push(entry(1, 63, 5));
+    list.push(entry(0, 2, 5));
+    list.push(entry(1, 0, 4));
+    let entries = Entries::new(alloc, list)?;
+    assert_eq!(rt; entries.len(), 3);
+    assert_eq!(rt; entries.find(1, 63), Some(0));
+    assert_eq!(rt; entries.find(0, 63), None);
+    assert_eq!(rt; entries.find(8, 0), None);
+    assert_eq!(rt; entries.of_page(5), [0, 1].as_slice());
+    assert_eq!(rt; entries.of_page(63), [].as_slice());
+    assert_eq!(rt; entries.of_space(1), [0, 2].as_slice());
     Ok(())
 }

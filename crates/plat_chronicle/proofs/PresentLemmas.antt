@@ -22,7 +22,8 @@ use Rattle.plat_chronicle.specs.Removals.{ShowsRemovals}
 use Rattle.plat_chronicle.specs.Translations.{ShowsTranslations}
 use Rattle.plat_chronicle.specs.Present.{PresentSeen, Shows, Fits}
 use Rattle.plat_chronicle.specs.Chronicle.{Follows, most_items}
-use Rattle.plat_chronicle.proofs.OtherLemmas.{ShowsPages-other, ShowsSpaces-other, ShowsRemovals-other, ShowsTranslations-other, IsFlatOf-other}
+use Rattle.plat_chronicle.proofs.OtherLemmas.{ShowsPages-other, ShowsSpaces-other, ShowsRemovals-other, ShowsTranslations-other}
+use Rattle.plat_chronicle.proofs.OtherLemmas.{IsFlatOf-other}
 
 pub Shows-access : (m : Machine) (items : List Item) (present : PresentSeen) (now : FlatSeen) (a : Access) → Shows m items present
     → IsFlatOf m (items ++ item.Access a ∷ []) now → Shows m (items ++ item.Access a ∷ []) (record present { flat = now })
@@ -34,10 +35,12 @@ Shows-access m items present now a shows memory = record {
   flat = memory;
 }
 
-pub Shows-change : (m : Machine) (items : List Item) (present : PresentSeen) (states : List PageState) (removals : List Highest) (held : List (List (Option Translation))) (c : Change)
+pub Shows-change : (m : Machine) (items : List Item) (present : PresentSeen) (states : List PageState) (removals : List Highest)
+    (held : List (List (Option Translation))) (c : Change)
     → Shows m items present → ShowsPages m.pages (items ++ item.Change c ∷ []) states
     → ShowsRemovals m.pages (items ++ item.Change c ∷ []) removals → ShowsTranslations m (items ++ item.Change c ∷ []) held
-    → Shows m (items ++ item.Change c ∷ []) (record { pages = states; active = present.active; removals = removals; held = held; flat = present.flat })
+    → Shows m (items ++ item.Change c ∷ [])
+    (record { pages = states; active = present.active; removals = removals; held = held; flat = present.flat })
 Shows-change m items present states removals held c shows pages removed translations = record {
   pages = pages;
   spaces = ShowsSpaces-other m items present.active (item.Change c) refl shows.spaces;
@@ -94,7 +97,8 @@ seq_after-step n None = omega arith
 seq_after-step n (Some c) = omega arith
 
 pub seq_of-at_most : (items : List Item) (page : ℕ) → seq_of items page ≤ length items
-seq_of-at_most items page = omega (arith, fold-at_most (λ n i. seq_after n (change_of page i)) (λ n i. seq_after-step n (change_of page i)) 0 items)
+seq_of-at_most items page = omega
+    (arith, fold-at_most (λ n i. seq_after n (change_of page i)) (λ n i. seq_after-step n (change_of page i)) 0 items)
 
 pub flat_writes-at_most : (items : List Item) (page word : ℕ) → flat_writes items page word ≤ length items
 flat_writes-at_most items page word =

@@ -1,5 +1,6 @@
 -- the greatest numbers of removing changes, against the history
-use Rattle.std.proofs.Common.{◌≡◌, ℕ, zero, suc, ◌+◌, ◌<◌, ◌≤◌, max, List, [], ◌∷◌, ◌++◌, length, get_or, set, Bool, true, false, ◌&&◌, ◌||◌, not, inl, inr, ap, sym, subst, arith}
+use Rattle.std.proofs.Common.{◌≡◌, ℕ, zero, suc, ◌+◌, ◌<◌, ◌≤◌, max, List, [], ◌∷◌, ◌++◌, length, get_or, set, Bool, true, false, ◌&&◌}
+use Rattle.std.proofs.Common.{◌||◌, not, inl, inr, ap, sym, subst, arith}
 use Rattle.std.specs.Prelude.{◌==◌, nat_lt}
 use Rattle.std.specs.List.{list_any, enumerate_from}
 use Rattle.std.proofs.lemmas.Bool.{cases_eq}
@@ -43,8 +44,22 @@ pub ShowsHighest-more : (test : Removed → Bool) (items : List Item) (c : Chang
 ShowsHighest-more test items c highs shows actor removes = record {
   size = grind (arith, length-set {A = ℕ}, shows.size);
   others = λ q seq.
-      grind (arith, nat_tests, by_other-change test items c q c.page seq, other-set 0 c.actor q seq c.seq highs, shows.others q seq, shows.size);
-  above = λ seq. grind (arith, nat_tests, later-change test items c c.page seq, above-set c.actor seq c.seq highs, shows.above seq, shows.size);
+      grind (
+        arith,
+        nat_tests,
+        by_other-change test items c q c.page seq,
+        other-set 0 c.actor q seq c.seq highs,
+        shows.others q seq,
+        shows.size,
+      );
+  above = λ seq. grind (
+    arith,
+    nat_tests,
+    later-change test items c c.page seq,
+    above-set c.actor seq c.seq highs,
+    shows.above seq,
+    shows.size,
+  );
 }
 
 -- the numbers of another page, or of a change that removes nothing that the test names, stay
@@ -68,18 +83,22 @@ with_all h c = record { all = raised h.all c.actor c.seq; writes = h.writes }
 
 -- of each page but that of a change its numbers, and of that page new ones
 module _ (test : Removed → Bool) (part : Highest → List ℕ) (pages : ℕ) (items : List Item) (c : Change) (hs : List Highest) (new : Highest)
-    (shows : (page : ℕ) → ShowsHighest test items page (part (get_or hs page no_removal))) (size : length hs ≡ pages) (inside : c.page < pages) where
+    (shows : (page : ℕ) → ShowsHighest test items page (part (get_or hs page no_removal))) (size : length hs ≡ pages)
+    (inside : c.page < pages) where
   abbrev now : ℕ → List ℕ
   now page = part (get_or (set hs c.page new) page no_removal)
 
-  pub ShowsHighest-each : ShowsHighest test (items ++ item.Change c ∷ []) c.page (part new) → (page : ℕ) → ShowsHighest test (items ++ item.Change c ∷ []) page (now page)
+  pub ShowsHighest-each : ShowsHighest test (items ++ item.Change c ∷ []) c.page (part new) → (page : ℕ) →
+      ShowsHighest test (items ++ item.Change c ∷ []) page (now page)
   ShowsHighest-each here page =
       elim (cases_eq page c.page) [
         | inl same ↦
             subst (λ (p : ℕ). ShowsHighest test (items ++ item.Change c ∷ []) p (now p)) (sym same)
-            (subst (ShowsHighest test (items ++ item.Change c ∷ []) c.page) (sym (ap part (get_or-set_same hs c.page new no_removal (omega arith)))) here)
+            (subst (ShowsHighest test (items ++ item.Change c ∷ []) c.page)
+            (sym (ap part (get_or-set_same hs c.page new no_removal (omega arith)))) here)
         | inr differ ↦
-            subst (ShowsHighest test (items ++ item.Change c ∷ []) page) (sym (ap part (get_or-set_other hs c.page page new no_removal differ)))
+            subst (ShowsHighest test (items ++ item.Change c ∷ []) page)
+            (sym (ap part (get_or-set_other hs c.page page new no_removal differ)))
             (ShowsHighest-same test items c page (part (get_or hs page no_removal)) (grind (arith, nat_tests)) (shows page))
       ]
 

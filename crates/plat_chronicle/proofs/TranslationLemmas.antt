@@ -16,11 +16,13 @@ use Rattle.plat_base.specs.declared.items.Item.TheVariants as item
 use Rattle.plat_chronicle.specs.Translations.{ShowsTranslations}
 
 -- the maps show the history with one more change, if the actor's new map is what the change leaves and grants
-pub ShowsTranslations-change : (m : Machine) (items : List Item) (c : Change) (pmaps : List (List (Option Translation))) (new : List (Option Translation))
+pub ShowsTranslations-change : (m : Machine) (items : List Item) (c : Change) (pmaps : List (List (Option Translation)))
+    (new : List (Option Translation))
     → ShowsTranslations m items pmaps → c.actor < m.nodes → length new ≡ length m.entries
     → ((entry : ℕ) → entry < length m.entries
     → get_or new entry None
-    ≡ granted_to entry c.seq c.granted (if page_of m entry == c.page then kept_of c.removed (get_or (get_or pmaps c.actor []) entry None) else get_or (get_or pmaps c.actor []) entry None))
+    ≡ granted_to entry c.seq c.granted (if page_of m entry == c.page then kept_of c.removed (get_or (get_or pmaps c.actor []) entry None)
+    else get_or (get_or pmaps c.actor []) entry None))
     → ShowsTranslations m (items ++ item.Change c ∷ []) (set pmaps c.actor new)
 ShowsTranslations-change m items c pmaps new shows node wide is = record {
   size = grind (arith, length-set {A = List (Option Translation)}, shows.size);
@@ -30,7 +32,14 @@ ShowsTranslations-change m items c pmaps new shows node wide is = record {
   ];
   at = λ q entry within inside. elim (cases_eq q c.actor) [
     | inl same ↦
-        grind (arith, get_or-set_same pmaps c.actor new [], shows.size, is entry inside, shows.at c.actor entry node inside, held-change_own m items c entry)
+        grind (
+          arith,
+          get_or-set_same pmaps c.actor new [],
+          shows.size,
+          is entry inside,
+          shows.at c.actor entry node inside,
+          held-change_own m items c entry,
+        )
     | inr differ ↦
         grind (arith, get_or-set_other pmaps c.actor q new [], shows.at q entry within inside, held-change_other m items c q entry)
   ];
@@ -43,5 +52,10 @@ pub get_or-granted : (xs : List (Option Translation)) (g : Grant) (seq entry : �
 get_or-granted xs g seq entry within =
     elim (cases_eq entry g.entry) [
       | inl same ↦ grind (arith, nat_tests, get_or-set_same xs g.entry (Some (record { grant = g; seq = seq; restricted = false })) None)
-      | inr differ ↦ grind (arith, nat_tests, get_or-set_other xs g.entry entry (Some (record { grant = g; seq = seq; restricted = false })) None)
+      | inr differ ↦ grind (
+        arith,
+        nat_tests,
+        get_or-set_other xs g.entry entry (Some (record { grant = g; seq = seq; restricted = false }))
+            None,
+      )
     ]

@@ -65,7 +65,8 @@ impl Pages {
     pub fn change(&mut self, change: &Change)
         requires page { change.now.page < length self.old.states.items }
         requires count { changes_at self.old.states.items change.now.page < 4294967295 }
-        ensures { (pages : ℕ) (items : Many AnyItem) → ShowsPages pages items self.old.states.items → ShowsPages pages (items ++ item.Change change.now ∷ []) self.new.states.items }
+        ensures { (pages : ℕ) (items : Many AnyItem) → ShowsPages pages items self.old.states.items →
+            ShowsPages pages (items ++ item.Change change.now ∷ []) self.new.states.items }
     {
         let page = &mut self.states[change.page as usize];
         page.dir = change.after;

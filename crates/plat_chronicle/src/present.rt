@@ -5,7 +5,8 @@ ghost use Rattle.plat_base.specs.Seen.{machine};
 ghost use Rattle.plat_base.specs.Rules.{is_legal};
 ghost use Rattle.plat_base.specs.declared.items.Item.{Item as AnyItem};
 ghost use Rattle.plat_base.specs.declared.items.Item.TheVariants as item;
-ghost use Rattle.plat_chronicle.specs.Present.{Shows, Fits, dir_at, seq_at, last_at, value_at, version_at, held_at, active_at, is_removed_by_other, is_removed_later, all_of, writes_of};
+ghost use Rattle.plat_chronicle.specs.Present.{Shows, Fits, dir_at, seq_at, last_at, value_at, version_at, held_at, active_at};
+ghost use Rattle.plat_chronicle.specs.Present.{is_removed_by_other, is_removed_later, all_of, writes_of};
 
 use crate::pages::Pages;
 use crate::removals::{Removals, is_above, is_by_other};
@@ -34,7 +35,13 @@ impl Model for Present {
 
     ghost Value = { PresentSeen };
 
-    ghost view = { λ it. record { pages = it.pages.states.items; active = it.spaces.active.items; removals = it.removals.pages.items; held = it.translations.pmaps.items; flat = it.flat } };
+    ghost view = { λ it. record {
+      pages = it.pages.states.items;
+      active = it.spaces.active.items;
+      removals = it.removals.pages.items;
+      held = it.translations.pmaps.items;
+      flat = it.flat;
+    } };
 }
 
 impl Present {
@@ -162,8 +169,10 @@ impl Present {
     /// Takes an access in. It answers false exactly where the access is not the next one of flat memory, and then
     /// changes nothing.
     pub fn access(&mut self, access: &Access) -> bool
-        ensures answer { (m : Machine) (items : Many AnyItem) → Shows m items self.old → result ≡ is_legal m items access.now }
-        ensures taken { (m : Machine) (items : Many AnyItem) → Shows m items self.old → result ≡ true → Shows m (items ++ item.Access access.now ∷ []) self.new }
+        ensures answer { (m : Machine) (items : Many AnyItem) → Shows m items self.old →
+            result ≡ is_legal m items access.now }
+        ensures taken { (m : Machine) (items : Many AnyItem) → Shows m items self.old → result ≡ true →
+            Shows m (items ++ item.Access access.now ∷ []) self.new }
         ensures refused { result ≡ false → self.new ≡ self.old }
     {
         self.flat.apply(&Item::Access(*access))
@@ -176,7 +185,8 @@ impl Present {
         requires actor { change.now.actor ≤ cfg.now.nodes }
         requires grant { IfSome change.now.granted (λ grant. grant.entry < length cfg.now.entries.items) }
         requires count { seq_at self.old change.now.page < 4294967295 }
-        ensures { (items : Many AnyItem) → Shows (machine cfg.now) items self.old → Shows (machine cfg.now) (items ++ item.Change change.now ∷ []) self.new }
+        ensures { (items : Many AnyItem) → Shows (machine cfg.now) items self.old →
+            Shows (machine cfg.now) (items ++ item.Change change.now ∷ []) self.new }
     {
         self.pages.change(change);
         self.removals.change(change);
@@ -187,7 +197,8 @@ impl Present {
     pub fn applied(&mut self, applied: Applied)
         requires processor { applied.actor < length self.old.held }
         requires entry { applied.entry < length (slice_index_or self.old.held applied.actor []) }
-        ensures { (m : Machine) (items : Many AnyItem) → Shows m items self.old → Shows m (items ++ item.Applied applied ∷ []) self.new }
+        ensures { (m : Machine) (items : Many AnyItem) → Shows m items self.old →
+            Shows m (items ++ item.Applied applied ∷ []) self.new }
     {
         self.translations.applied(applied);
     }
@@ -195,7 +206,8 @@ impl Present {
     /// Takes a switch in.
     pub fn switch(&mut self, switch: Switch)
         requires { switch.actor < length self.old.active }
-        ensures { (m : Machine) (items : Many AnyItem) → Shows m items self.old → Shows m (items ++ item.Switch switch ∷ []) self.new }
+        ensures { (m : Machine) (items : Many AnyItem) → Shows m items self.old →
+            Shows m (items ++ item.Switch switch ∷ []) self.new }
     {
         self.spaces.switch(switch);
     }

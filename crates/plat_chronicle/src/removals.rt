@@ -57,7 +57,8 @@ impl Removals {
     pub fn change(&mut self, change: &Change)
         requires page { change.now.page < length self.old.pages.items }
         requires actor { change.now.actor ≤ 8 }
-        ensures { (pages : ℕ) (items : Many AnyItem) → ShowsRemovals pages items self.old.pages.items → ShowsRemovals pages (items ++ item.Change change.now ∷ []) self.new.pages.items }
+        ensures { (pages : ℕ) (items : Many AnyItem) → ShowsRemovals pages items self.old.pages.items →
+            ShowsRemovals pages (items ++ item.Change change.now ∷ []) self.new.pages.items }
     {
         let highest = &mut self.pages[change.page as usize];
         let actor = change.actor as usize;

@@ -31,7 +31,8 @@ impl Spaces {
     /// Takes a switch in.
     pub fn switch(&mut self, switch: Switch)
         requires { switch.actor < length self.old.active.items }
-        ensures { (m : Machine) (items : Many AnyItem) → ShowsSpaces m items self.old.active.items → ShowsSpaces m (items ++ item.Switch switch ∷ []) self.new.active.items }
+        ensures { (m : Machine) (items : Many AnyItem) → ShowsSpaces m items self.old.active.items →
+            ShowsSpaces m (items ++ item.Switch switch ∷ []) self.new.active.items }
     {
         self.active[switch.actor as usize] = switch.space;
     }

@@ -1,5 +1,6 @@
 //! The translations that each processor holds.
-ghost use Rattle.std.specs.Prelude.{◌≡◌, ◌≢◌, ℕ, ◌<◌, ◌==◌, List as Many, [], ◌∷◌, ◌++◌, length, None, slice_index_or, IfOk, IfSome, if◌then◌else◌};
+ghost use Rattle.std.specs.Prelude.{◌≡◌, ◌≢◌, ℕ, ◌<◌, ◌==◌, List as Many, [], ◌∷◌, ◌++◌, length, None, slice_index_or, IfOk, IfSome};
+ghost use Rattle.std.specs.Prelude.{if◌then◌else◌};
 ghost use Rattle.plat_base.specs.Machine.{Machine};
 ghost use Rattle.plat_base.specs.Seen.{machine};
 ghost use Rattle.plat_base.specs.Pages.{page_of};
@@ -8,7 +9,7 @@ ghost use Rattle.plat_base.specs.declared.items.Item.{Item as AnyItem};
 ghost use Rattle.plat_base.specs.declared.items.Item.TheVariants as item;
 ghost use Rattle.plat_chronicle.specs.Translations.{ShowsTranslations, kept};
 
-use plat_base::{Applied, Change, Config, Message, Removed, Translation};
+use plat_base::{Applied, Change, Config, Message, PAGES, Removed, Translation};
 use plat_pmap::Pmap;
 use std::alloc::{AllocError, Global};
 
@@ -22,7 +23,8 @@ pub struct Translations {
 fn remove_entry(pmap: &mut Pmap, entry: u32, removed: Removed)
     requires { entry < length pmap.old }
     ensures wide { length pmap.new ≡ length pmap.old }
-    ensures same { (other : ℕ) → other ≢ entry → slice_index_or pmap.new other None ≡ slice_index_or pmap.old other None }
+    ensures same { (other : ℕ) → other ≢ entry → slice_index_or pmap.new other None
+        ≡ slice_index_or pmap.old other None }
     ensures kept { slice_index_or pmap.new entry None ≡ kept_of removed (slice_index_or pmap.old entry None) }
 {
     match removed {
@@ -36,13 +38,16 @@ fn remove_entry(pmap: &mut Pmap, entry: u32, removed: Removed)
 fn remove_own(cfg: &Config, pmap: &mut Pmap, page: u32, removed: Removed)
     requires { length pmap.old ≡ length cfg.now.entries.items }
     ensures wide { length pmap.new ≡ length pmap.old }
-    ensures places { (entry : ℕ) → entry < length pmap.old → slice_index_or pmap.new entry None ≡ (if page_of (machine cfg.now) entry == page then kept_of removed (slice_index_or pmap.old entry None) else slice_index_or pmap.old entry None) }
+    ensures places { (entry : ℕ) → entry < length pmap.old → slice_index_or pmap.new entry None
+        ≡ (if page_of (machine cfg.now) entry == page then
+        kept_of removed (slice_index_or pmap.old entry None) else slice_index_or pmap.old entry None) }
 {
-    for number in 0..cfg.entries.len() {
-        let entry = number as u32;
-        if cfg.page_of(entry) == page {
-            remove_entry(pmap, entry, removed);
-        }
+    if page >= PAGES {
+        // No entry leads to such a page.
+        return;
+    }
+    for entry in cfg.entries_of_page(page) {
+        remove_entry(pmap, *entry, removed);
     }
 }
 
@@ -73,9 +78,11 @@ impl Translations {
     /// Takes a change in; the daemon holds nothing.
     pub fn change(&mut self, cfg: &Config, change: &Change)
         requires size { length self.old.pmaps.items ≡ cfg.now.nodes }
-        requires wide { (q : ℕ) → q < cfg.now.nodes → length (slice_index_or self.old.pmaps.items q []) ≡ length cfg.now.entries.items }
+        requires wide { (q : ℕ) → q < cfg.now.nodes → length (slice_index_or self.old.pmaps.items q [])
+            ≡ length cfg.now.entries.items }
         requires grant { IfSome change.now.granted (λ grant. grant.entry < length cfg.now.entries.items) }
-        ensures { (items : Many AnyItem) → ShowsTranslations (machine cfg.now) items self.old.pmaps.items → ShowsTranslations (machine cfg.now) (items ++ item.Change change.now ∷ []) self.new.pmaps.items }
+        ensures { (items : Many AnyItem) → ShowsTranslations (machine cfg.now) items self.old.pmaps.items →
+            ShowsTranslations (machine cfg.now) (items ++ item.Change change.now ∷ []) self.new.pmaps.items }
     {
         if change.actor as usize >= self.pmaps.len() {
             return;
@@ -91,7 +98,8 @@ impl Translations {
     pub fn applied(&mut self, applied: Applied)
         requires processor { applied.actor < length self.old.pmaps.items }
         requires entry { applied.entry < length (slice_index_or self.old.pmaps.items applied.actor []) }
-        ensures { (m : Machine) (items : Many AnyItem) → ShowsTranslations m items self.old.pmaps.items → ShowsTranslations m (items ++ item.Applied applied ∷ []) self.new.pmaps.items }
+        ensures { (m : Machine) (items : Many AnyItem) → ShowsTranslations m items self.old.pmaps.items →
+            ShowsTranslations m (items ++ item.Applied applied ∷ []) self.new.pmaps.items }
     {
         let pmap = &mut self.pmaps[applied.actor as usize];
         match applied.message {

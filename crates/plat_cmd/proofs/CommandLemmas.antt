@@ -61,7 +61,8 @@ name-plain name n c h = by (bytes_eq name (codes "gen")) refl (bytes_eq name (co
     by false e true f k = ap is_plain ((bytes_eq-Decides name (codes "big")).0 f)
     by false e false f k = absurd cc
 
-pair-plain : (name number : List ℕ) (r : Result ℕ Why) (c : Command) → number_of number ≡ r → with_number name r ≡ Ok c → are_plain (name ∷ number ∷ []) ≡ true
+pair-plain : (name number : List ℕ) (r : Result ℕ Why) (c : Command) → number_of number ≡ r → with_number name r ≡ Ok c →
+    are_plain (name ∷ number ∷ []) ≡ true
 pair-plain name number (Err why) c e h = absurd cc
 pair-plain name number (Ok n) c e h = rw (name-plain name n c h, number-plain number n e) refl
 

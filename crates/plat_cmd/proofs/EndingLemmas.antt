@@ -1,5 +1,6 @@
 -- how commands end: the status of what was written, of a run, and of a command that stopped
-use Rattle.std.proofs.Common.{◌≡◌, ◌≢◌, ◌⊎◌, inl, inr, ℕ, suc, ◌<◌, ◌≤◌, leb, ◌&&◌, true, false, Bool, List, [], ◌∷◌, length, arith, refl, sym, ap, ◌∙◌, ⊎_elim, if◌then◌else◌}
+use Rattle.std.proofs.Common.{◌≡◌, ◌≢◌, ◌⊎◌, inl, inr, ℕ, suc, ◌<◌, ◌≤◌, leb, ◌&&◌, true, false, Bool, List, [], ◌∷◌, length, arith, refl}
+use Rattle.std.proofs.Common.{sym, ap, ◌∙◌, ⊎_elim, if◌then◌else◌}
 use Rattle.std.specs.Prelude.{Result, Ok, Err, IfSome, slice_index_or}
 use Rattle.std.proofs.lemmas.Bool.{cases_Bool, leb-true, leb-false, true≢false}
 use Rattle.std.specs.List.{list_any}
@@ -30,7 +31,8 @@ use Rattle.plat_cmd.specs.declared.words.Grain.TheVariants as grain
 -- what a writing adds, told by the status that it leaves
 pub written_by :
     {K : Type 0} (sink : Ghosts K) (old new : K) (writing : Result (Unit {0}) WriteFault) (bytes : List ℕ) (complete now : Status)
-    → complete ≢ status.WriteFault → now ≡ status_after complete writing → Adds sink old new writing bytes → IsWritten sink old new now bytes
+    → complete ≢ status.WriteFault → now ≡ status_after complete writing → Adds sink old new writing bytes →
+    IsWritten sink old new now bytes
 written_by sink old new (Ok u) bytes complete now other is adds = record {
   whole = λ differs. adds.whole;
   part = λ fault. absurd (other (sym is ∙ fault));
@@ -46,7 +48,8 @@ written_by sink old new (Err e) bytes complete now other is adds = record {
   size = adds.size;
 }
 
-pub ended_by : (writing : Result (Unit {0}) WriteFault) (complete now : Status) → now ≡ status_after complete writing → IsOrWriteFault complete now
+pub ended_by : (writing : Result (Unit {0}) WriteFault) (complete now : Status) → now ≡ status_after complete writing →
+    IsOrWriteFault complete now
 ended_by (Ok u) complete now is = inl is
 ended_by (Err e) complete now is = inr is
 
@@ -69,7 +72,8 @@ pub run_status : (ends : List Ended) (limit : Bool) → is_run_status (status_of
 run_status ends limit = by (limit && ends_as end.Cut ends) (ends_as end.NoFrames ends) (ends_as end.Spent ends)
   where
     by : (cut starved spent : Bool)
-        → is_run_status (if cut then status.EventLimit else if starved then status.NoFrames else if spent then status.Spent else status.Done) ≡ true
+        → is_run_status (if cut then status.EventLimit else if starved then status.NoFrames else if spent then status.Spent
+        else status.Done) ≡ true
     by true starved spent = refl
     by false true spent = refl
     by false false true = refl
@@ -127,7 +131,8 @@ told_no_bad status.BadWords P h = tt
 
 -- ---- a run whose guests end is done, or lacks frames
 
-none_of : {X : Type 0} (p : X → Bool) (d : X) (xs : List X) → ((i : ℕ) → i < length xs → p (slice_index_or xs i d) ≡ false) → list_any p xs ≡ false
+none_of : {X : Type 0} (p : X → Bool) (d : X) (xs : List X) → ((i : ℕ) → i < length xs → p (slice_index_or xs i d) ≡ false) →
+    list_any p xs ≡ false
 none_of p d [] h = refl
 none_of p d (x ∷ xs) h = rw (h 0 (omega arith)) (none_of p d xs (λ i l. h (suc i) (omega arith)))
 
@@ -145,7 +150,8 @@ not_starved end.Spent h = refl
 not_starved end.NoFrames h = absurd (h refl)
 not_starved end.Cut h = refl
 
-pub done_status : (starved spent : Bool) → starved ≡ false → spent ≡ false → (if starved then status.NoFrames else if spent then status.Spent else status.Done) ≡ status.Done
+pub done_status : (starved spent : Bool) → starved ≡ false → spent ≡ false →
+    (if starved then status.NoFrames else if spent then status.Spent else status.Done) ≡ status.Done
 done_status true spent h k = absurd cc
 done_status false true h k = absurd cc
 done_status false false h k = refl
@@ -157,22 +163,27 @@ starved_status true spent k = inr refl
 starved_status false true k = absurd cc
 starved_status false false k = inl refl
 
-module _ (m : Machine) (answer : Answer) (items : List Item) (ends : List Ended) (run : IsCoherentRun m answer items ends) (guests : GuestsEnd m items) where
+module _ (m : Machine) (answer : Answer) (items : List Item) (ends : List Ended) (run : IsCoherentRun m answer items ends)
+    (guests : GuestsEnd m items) where
   none_spent : ends_as end.Spent ends ≡ false
   none_spent = none_of (λ (x : Ended). same_end x.end end.Spent) (cut_at 0) ends by
     where
       by : (q : ℕ) → q < length ends → same_end (ended_of ends q).end end.Spent ≡ false
-      by q l = let inside : q < m.nodes = omega (arith, run.one.all_end, l) in not_spent (ended_of ends q).end (run.unspent q inside (guests q inside))
+      by q l = let inside : q < m.nodes = omega (arith, run.one.all_end, l) in
+          not_spent (ended_of ends q).end (run.unspent q inside (guests q inside))
 
   none_starved : m.pages ≤ m.frames → ends_as end.NoFrames ends ≡ false
   none_starved enough = none_of (λ (x : Ended). same_end x.end end.NoFrames) (cut_at 0) ends by
     where
       by : (q : ℕ) → q < length ends → same_end (ended_of ends q).end end.NoFrames ≡ false
-      by q l = let inside : q < m.nodes = omega (arith, run.one.all_end, l) in not_starved (ended_of ends q).end (run.framed enough q inside)
+      by q l = let inside : q < m.nodes = omega (arith, run.one.all_end, l) in
+          not_starved (ended_of ends q).end (run.framed enough q inside)
 
   pub uncut_status : (now : Status) → now ≡ status_of ends false → IsDoneWithMemory now ⊎ LacksFrames m now
   uncut_status now is =
-      ⊎_elim (λ enough. inl (inl (is ∙ done_status (ends_as end.NoFrames ends) (ends_as end.Spent ends) (none_starved (leb-true m.pages m.frames enough)) none_spent)))
+      ⊎_elim (λ enough.
+      inl (inl (is ∙ done_status (ends_as end.NoFrames ends) (ends_as end.Spent ends) (none_starved (leb-true m.pages m.frames enough))
+      none_spent)))
       (λ few. ⊎_elim (λ done. inl (inl (is ∙ done))) (λ starved. inr (leb-false m.pages m.frames few, is ∙ starved))
       (starved_status (ends_as end.NoFrames ends) (ends_as end.Spent ends) none_spent)) (cases_Bool (leb m.pages m.frames))
 
@@ -186,8 +197,11 @@ module _ (m : Machine) (answer : Answer) (items : List Item) (ends : List Ended)
       by true cut is = inr (inr (cut, is))
       by false whole is = ⊎_elim (λ done. inl done) (λ few. inr (inl few)) (uncut_status now is)
 
-pub finished_status : (g : Grain) (m : Machine) (items : List Item) → IsCoherentRun m (policy_answer m.policy) items (ends_of g m) → GuestsEnd m items → (now : Status)
+pub finished_status : (g : Grain) (m : Machine) (items : List Item) → IsCoherentRun m (policy_answer m.policy) items (ends_of g m) →
+    GuestsEnd m items → (now : Status)
     → now ≡ status_of (ends_of g m) (is_limited g) → IsDoneWithMemory now ⊎ LacksFrames m now ⊎ ReachesLimit g m now
 finished_status grain.Coarse m items run guests now is =
-    ⊎_elim (λ done. inl done) (λ few. inr (inl few)) (uncut_status m (policy_answer m.policy) items (ends_of grain.Coarse m) run guests now is)
-finished_status grain.Fine m items run guests now is = limited_status m (policy_answer m.policy) items (ends_of grain.Fine m) run guests now is
+    ⊎_elim (λ done. inl done) (λ few. inr (inl few))
+    (uncut_status m (policy_answer m.policy) items (ends_of grain.Coarse m) run guests now is)
+finished_status grain.Fine m items run guests now is =
+    limited_status m (policy_answer m.policy) items (ends_of grain.Fine m) run guests now is

@@ -1,10 +1,15 @@
 -- no line of a text is refused as too long: that is said of the bytes of a whole text alone
-use Rattle.std.proofs.Common.{◌≡◌, ◌≢◌, ℕ, zero, suc, ◌==◌, ◌+◌, Bool, true, false, ◌||◌, List, [], ◌∷◌, ◌++◌, length, refl, sym, ◌∙◌, if◌then◌else◌}
+use Rattle.std.proofs.Common.{◌≡◌, ◌≢◌, ℕ, zero, suc, ◌==◌, ◌+◌, Bool, true, false, ◌||◌, List, [], ◌∷◌, ◌++◌, length, refl, sym, ◌∙◌}
+use Rattle.std.proofs.Common.{if◌then◌else◌}
 use Rattle.std.specs.Prelude.{◌^◌, Option, Some, None, Result, Ok, Err, nat_lt, nat_le, bytes_eq, codes, position}
 use Rattle.std.specs.Str.Parse.{digits_value}
 use Rattle.std.specs.List.{list_any, slice_split}
 use Rattle.plat_grammar.specs.Lines.{LineText, Word, lines_of, uncommented, is_spelling, number_of}
-use Rattle.plat_grammar.specs.Forms.{◌>>=◌, Row, Rest, Stop, finished, broken, refused, is_bad, no_bad_byte, row_of, with_line, rest_of, rows_of, missing, row_length, row_from, row_at, word_from, word_at, first_word, word_ahead, read_as, one, exactly, within, number_in, under, number_below, key, any_number, number, below, nothing_from, nothing, ◌·◌, made, maybe, each, listed, chosen, choice, once, opened, line_at, repeated, all_with, over_from, over}
+use Rattle.plat_grammar.specs.Forms.{◌>>=◌, Row, Rest, Stop, finished, broken, refused, is_bad, no_bad_byte, row_of, with_line, rest_of}
+use Rattle.plat_grammar.specs.Forms.{rows_of, missing, row_length, row_from, row_at, word_from, word_at, first_word, word_ahead, read_as}
+use Rattle.plat_grammar.specs.Forms.{one, exactly, within, number_in, under, number_below, key, any_number, number, below, nothing_from}
+use Rattle.plat_grammar.specs.Forms.{nothing, ◌·◌, made, maybe, each, listed, chosen, choice, once, opened, line_at, repeated, all_with}
+use Rattle.plat_grammar.specs.Forms.{over_from, over}
 use Rattle.plat_base.specs.Machine.{is_within}
 use Rattle.plat_base.specs.declared.faults.Refused.{Refused}
 use Rattle.plat_base.specs.declared.faults.Why.{Why}

@@ -1,5 +1,6 @@
 -- the run of single operations of the schedule is that of the definition
-use Rattle.std.proofs.Common.{◌≡◌, ℕ, zero, suc, ◌+◌, ◌<◌, ◌≤◌, leb, ⊎_elim, if◌then◌else◌, Bool, true, false, List, [], ◌∷◌, length, filter, refl, sym, ap, subst, ◌∙◌, arith}
+use Rattle.std.proofs.Common.{◌≡◌, ℕ, zero, suc, ◌+◌, ◌<◌, ◌≤◌, leb, ⊎_elim, if◌then◌else◌, Bool, true, false, List, [], ◌∷◌, length}
+use Rattle.std.proofs.Common.{filter, refl, sym, ap, subst, ◌∙◌, arith}
 use Rattle.std.specs.Prelude.{Option, None, Some, slice_get}
 use Rattle.std.proofs.lemmas.Bool.{cases_Bool, leb-true, leb-false}
 use Rattle.std.proofs.lemmas.Bool.Decides.{nat_tests}
@@ -13,8 +14,9 @@ use Rattle.plat_base.specs.Verdicts.{Answer, policy_answer}
 use Rattle.plat_base.specs.declared.words.Op.{Op}
 use Rattle.plat_events.specs.Privates.{Private, actor_count, first_private}
 use Rattle.plat_events.specs.Events.{next_of}
-use Rattle.plat_events.specs.Runs.{Fine, ScheduledFine, event_at, event_by, event, live_actors, with_chosen, scheduled_events, most_events, fine_run}
-use Rattle.plat_event_laws.proofs.ChoiceLaws.{among, choose-among}
+use Rattle.plat_events.specs.Runs.{Fine, ScheduledFine, event_at, event_by, event, live_actors, with_chosen, scheduled_events, most_events}
+use Rattle.plat_events.specs.Runs.{fine_run}
+use Rattle.plat_base.proofs.ChoiceLemmas.{among, choose-among, filter-among}
 use Rattle.plat_fine.specs.FineSeen.{FineSeen, is_live}
 use Rattle.plat_sched.specs.Actors.{is_set}
 use Rattle.plat_sched.specs.ScheduleSeen.{ScheduleSeen}
@@ -23,17 +25,13 @@ use Rattle.plat_cmd.proofs.StepLemmas.{next_is, over_is}
 
 -- ---- live actors
 
--- what is in a filtered list passes the filter
-pub filter-among : (test : ℕ → Bool) (xs : List ℕ) (a : ℕ) → among a (filter test xs) ≡ true → test a ≡ true
-filter-among test [] a h = absurd cc
-filter-among test (x ∷ xs) a h = grind (arith, nat_tests, filter-among test xs a)
-
 -- an actor that a schedule chooses is live
 pub chosen_live : (x : FineSeen) (c : ℕ × Chooser) (s : ScheduleSeen)
     → choose x.machine.schedule (live_actors x.fine.privates) s.chooser ≡ Some c → is_live x.fine.privates c.0 ≡ true
 chosen_live x c s chosen =
     let privates = x.fine.privates in
-    filter-among (is_live privates) (numbers (length privates)) c.0 (choose-among x.machine.schedule (live_actors privates) s.chooser c chosen)
+    filter-among (is_live privates) (numbers (length privates)) c.0
+    (choose-among x.machine.schedule (live_actors privates) s.chooser c chosen)
 
 -- an actor that is not there is not live
 pub absent_live : (privates : List Private) (a : ℕ) → length privates ≤ a → is_live privates a ≡ false
@@ -42,10 +40,12 @@ absent_live (p ∷ privates) zero h = absurd (omega (arith, h))
 absent_live (p ∷ privates) (suc a) h = absent_live privates a (omega (arith, h))
 
 -- a bit behind those that were set is clear, and so is that of an actor that is not there
-pub clear_or_absent : (privates : List Private) (live n a : ℕ) → (a < n → is_set live a ≡ is_live privates a) → (n ≤ a → is_set live a ≡ false)
+pub clear_or_absent : (privates : List Private) (live n a : ℕ) → (a < n → is_set live a ≡ is_live privates a) →
+    (n ≤ a → is_set live a ≡ false)
     → length privates ≤ a → is_set live a ≡ false
 clear_or_absent privates live n a set clear absent =
-    ⊎_elim (λ behind. clear (leb-true n a behind)) (λ before. set (leb-false n a before) ∙ absent_live privates a absent) (cases_Bool (leb n a))
+    ⊎_elim (λ behind. clear (leb-true n a behind)) (λ before. set (leb-false n a before) ∙ absent_live privates a absent)
+    (cases_Bool (leb n a))
 
 -- the actors are the processors and at most one more
 pub count-most : (m : Machine) → actor_count m ≤ m.nodes + 1
@@ -97,7 +97,8 @@ event_is x s after next q chosen is =
 still_is : (m : Machine) (x : ScheduledFine) → choose m.schedule (live_actors x.fine.privates) x.chooser ≡ None → own_event m x ≡ x
 still_is m x none = ap (with_chosen m (policy_answer m.policy) x) none
 
-pub next_event_is : (m n : Machine) (x y : ScheduledFine) (k : ℕ) → n ≡ m → x ≡ after_events m k → y ≡ own_event n x → y ≡ after_events m (k + 1)
+pub next_event_is : (m n : Machine) (x y : ScheduledFine) (k : ℕ) → n ≡ m → x ≡ after_events m k → y ≡ own_event n x →
+    y ≡ after_events m (k + 1)
 next_event_is m n x y k same before made =
     next_is (after_events m) (own_event m) (λ i. refl) x y k before (made ∙ ap (λ (i : Machine). own_event i x) same)
 
@@ -113,6 +114,7 @@ run_is : (m : Machine) (events : ℕ) → events ≡ most_events → (after_even
 unfolding fine_run
 run_is m events all = ap (λ (k : ℕ). (scheduled_events m (policy_answer m.policy) k).fine) all
 
-pub made_is : (m n : Machine) (x : ScheduledFine) (events : ℕ) → n ≡ m → events ≡ most_events → x ≡ after_events n events → x.fine ≡ fine_run m (policy_answer m.policy)
+pub made_is : (m n : Machine) (x : ScheduledFine) (events : ℕ) → n ≡ m → events ≡ most_events → x ≡ after_events n events →
+    x.fine ≡ fine_run m (policy_answer m.policy)
 made_is m n x events same all made =
     ap (λ (s : ScheduledFine). s.fine) (made ∙ ap (λ (i : Machine). after_events i events) same) ∙ run_is m events all

@@ -31,9 +31,12 @@ good_has_frames : (m : Machine) (answer : Answer) (items : List Item) (ends : Li
     → HasEnoughFrames m → (q : ℕ) → q < m.nodes → (ended_of ends q).end ≢ end.NoFrames
 good_has_frames m answer items ends good enough q inside starved =
     let turns = (ended_of ends q).turns in
-    let both = and_parts (nat_le turns m.budget) (is_end m items q (ended_of ends q).end turns) ((one_history m answer items ends good).in_order q inside) in
-    let few : nat_lt m.frames m.pages ≡ true = starved_few m items q turns (subst (λ (e : End). is_end m items q e turns ≡ true) starved both.1) in
+    let both = and_parts (nat_le turns m.budget) (is_end m items q (ended_of ends q).end turns)
+    ((one_history m answer items ends good).in_order q inside) in
+    let few : nat_lt m.frames m.pages ≡ true =
+    starved_few m items q turns (subst (λ (e : End). is_end m items q e turns ≡ true) starved both.1) in
     grind (arith, nat_tests)
 
-pub good_is_coherent : (m : Machine) (answer : Answer) (items : List Item) (ends : List Ended) → Good m answer items ends → IsCoherentRun m answer items ends
+pub good_is_coherent : (m : Machine) (answer : Answer) (items : List Item) (ends : List Ended) → Good m answer items ends →
+    IsCoherentRun m answer items ends
 good_is_coherent m answer items ends good = coherent_run m answer items ends good (good_has_frames m answer items ends good)

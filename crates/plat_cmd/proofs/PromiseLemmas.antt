@@ -24,8 +24,10 @@ use Rattle.plat_io.specs.declared.sinks.Sink.{Ghosts}
 use Rattle.plat_io.specs.declared.sources.Source.{Ghosts as Reader}
 use Rattle.plat_gen.specs.Generated.{generated}
 use Rattle.plat_table.specs.Closed.{ClosedSeen}
-use Rattle.plat_cmd.specs.Inputs.{Input, machine_text, history_text, nothing, input_of, reads_some, Told, IsToldAs, IsToldHistory, IsRead, HasRead, IfTold, IsFault, TakesText, too_long}
-use Rattle.plat_cmd.specs.Works.{HasPrinted, HasSummed, HasDone, bad_of, first_bad_of, IsFirstBad, ComesToEnd, IsWritten, whole_output, ends_left, output_of, ends_of, is_limited, is_run, is_judge, may_reach_limit, may_end}
+use Rattle.plat_cmd.specs.Inputs.{Input, machine_text, history_text, nothing, input_of, reads_some, Told, IsToldAs, IsToldHistory, IsRead}
+use Rattle.plat_cmd.specs.Inputs.{HasRead, IfTold, IsFault, TakesText, too_long}
+use Rattle.plat_cmd.specs.Works.{HasPrinted, HasSummed, HasDone, bad_of, first_bad_of, IsFirstBad, ComesToEnd, IsWritten, whole_output}
+use Rattle.plat_cmd.specs.Works.{ends_left, output_of, ends_of, is_limited, is_run, is_judge, may_reach_limit, may_end}
 use Rattle.plat_cmd.specs.Judgings.{HasFailed}
 use Rattle.plat_cmd.specs.Promises.{IsNoRefusal, IsQuiet, IsEnded, CompletesWith, IsComplete, PromisesDoing, Promises}
 use Rattle.plat_cmd.specs.Steps.{IsStop, StopsAs, AcceptsAs, read_as, HasStopped, stop_status}
@@ -36,11 +38,13 @@ use Rattle.plat_cmd.specs.declared.words.WordsFault.TheVariants as words
 use Rattle.plat_cmd.specs.declared.outcomes.Outcome.{Outcome}
 use Rattle.plat_cmd.specs.declared.outcomes.Stop.{Stop}
 use Rattle.plat_cmd.specs.declared.outcomes.Stop.TheVariants as stop
-use Rattle.plat_cmd.proofs.EndingLemmas.{is_run_status, run_status, unlimited_status, silent_run, told_no_refusal, told_no_bad, uncut_status, finished_status, done_status}
+use Rattle.plat_cmd.proofs.EndingLemmas.{is_run_status, run_status, unlimited_status, silent_run, told_no_refusal, told_no_bad}
+use Rattle.plat_cmd.proofs.EndingLemmas.{uncut_status, finished_status, done_status}
 
 -- ---- a command that did its work
 
-pub may_run : (c : Command) → is_run c ≡ true → (s : Status) → is_run_status s ≡ true → (s ≡ status.EventLimit → may_reach_limit c ≡ true) → may_end c s ≡ true
+pub may_run : (c : Command) → is_run c ≡ true → (s : Status) → is_run_status s ≡ true → (s ≡ status.EventLimit → may_reach_limit c ≡ true) →
+    may_end c s ≡ true
 may_run c runs status.Done h limit = refl
 may_run c runs (status.HistoryBad bad) h limit = absurd cc
 may_run c runs (status.Refused refused) h limit = absurd cc
@@ -61,9 +65,11 @@ module _ {K : Type 0} (sink : Ghosts K) (old new : K) (now : Status) (kept : Lis
   done_is_told : (c : Command) (it : Told (input_of c)) → HasDone c sink it old new now kept ran → is_silent now ≡ false
   done_is_told command.Check m done = ⊎_elim (λ is. ap is_silent is) (λ is. ap is_silent is) done.ended
   done_is_told (command.Sim g o) m done =
-      ⊎_elim (λ is. ap is_silent is ∙ silent_run (status_of (ends_of g m) (is_limited g)) (run_status (ends_of g m) (is_limited g))) (λ is. ap is_silent is) done.ended
+      ⊎_elim (λ is. ap is_silent is ∙ silent_run (status_of (ends_of g m) (is_limited g)) (run_status (ends_of g m) (is_limited g)))
+      (λ is. ap is_silent is) done.ended
   done_is_told (command.Run o) m done =
-      ⊎_elim (λ is. ap is_silent is ∙ silent_run (status_of done.left.ends false) (run_status done.left.ends false)) (λ is. ap is_silent is) done.ended
+      ⊎_elim (λ is. ap is_silent is ∙ silent_run (status_of done.left.ends false) (run_status done.left.ends false)) (λ is. ap is_silent is)
+      done.ended
   done_is_told (command.Gen n) it done = ⊎_elim (λ is. ap is_silent is) (λ is. ap is_silent is) done.ended
   done_is_told (command.Big n) it done = ⊎_elim (λ is. ap is_silent is) (λ is. ap is_silent is) done.ended
   done_is_told command.Race h done = ⊎_elim (λ is. ap is_silent is) (λ is. ap is_silent is) done.ended
@@ -76,22 +82,27 @@ module _ {K : Type 0} (sink : Ghosts K) (old new : K) (now : Status) (kept : Lis
   done_may_end (command.Sim g o) m done =
       ⊎_elim
       (λ is. ap (may_end (command.Sim g o)) is
-      ∙ may_run (command.Sim g o) refl (status_of (ends_of g m) (is_limited g)) (run_status (ends_of g m) (is_limited g)) (may_be_limited (ends_of g m) (is_limited g)))
+      ∙ may_run (command.Sim g o) refl (status_of (ends_of g m) (is_limited g)) (run_status (ends_of g m) (is_limited g))
+      (may_be_limited (ends_of g m) (is_limited g)))
       (λ is. ap (may_end (command.Sim g o)) is) done.ended
   done_may_end (command.Run o) m done =
       ⊎_elim
       (λ is. ap (may_end (command.Run o)) is
-      ∙ may_run (command.Run o) refl (status_of done.left.ends false) (run_status done.left.ends false) (may_be_limited done.left.ends false))
+      ∙ may_run (command.Run o) refl (status_of done.left.ends false) (run_status done.left.ends false)
+      (may_be_limited done.left.ends false))
       (λ is. ap (may_end (command.Run o)) is) done.ended
   done_may_end (command.Gen n) it done = ⊎_elim (λ is. ap (may_end (command.Gen n)) is) (λ is. ap (may_end (command.Gen n)) is) done.ended
   done_may_end (command.Big n) it done = ⊎_elim (λ is. ap (may_end (command.Big n)) is) (λ is. ap (may_end (command.Big n)) is) done.ended
   done_may_end command.Race h done = ⊎_elim (λ is. ap (may_end command.Race) is) (λ is. ap (may_end command.Race) is) done.ended
   done_may_end command.Cost h done = ⊎_elim (λ is. ap (may_end command.Cost) is) (λ is. ap (may_end command.Cost) is) done.ended
   done_may_end command.Replay h done =
-      ⊎_elim (λ is. ap (may_end command.Replay) is ∙ may_run command.Replay refl (status_of h.ends false) (run_status h.ends false) (may_be_limited h.ends false)) (λ is. ap (may_end command.Replay) is) done.ended
+      ⊎_elim (λ is. ap (may_end command.Replay) is
+      ∙ may_run command.Replay refl (status_of h.ends false) (run_status h.ends false) (may_be_limited h.ends false))
+      (λ is. ap (may_end command.Replay) is) done.ended
 
   -- where no write fails, all was written
-  all_of : (bytes : List ℕ) → IsWritten sink old new now bytes → IsQuiet (sink.faults old) (sink.faults new) → sink.holds new ≡ added (sink.holds old) bytes
+  all_of : (bytes : List ℕ) → IsWritten sink old new now bytes → IsQuiet (sink.faults old) (sink.faults new) →
+      sink.holds new ≡ added (sink.holds old) bytes
   all_of bytes written quiet = written.whole (λ fault. quiet (written.risen fault))
 
   done_whole :
@@ -108,12 +119,14 @@ module _ {K : Type 0} (sink : Ghosts K) (old new : K) (now : Status) (kept : Lis
   done_whole command.Race h done quiet = all_of _ done.written quiet
   done_whole command.Cost h done quiet = all_of _ done.written quiet
 
-  pub done_complete : (c : Command) (it : Told (input_of c)) → HasDone c sink it old new now kept ran → IsQuiet (sink.faults old) (sink.faults new) → ComesToEnd c it now kept
+  pub done_complete : (c : Command) (it : Told (input_of c)) → HasDone c sink it old new now kept ran →
+      IsQuiet (sink.faults old) (sink.faults new) → ComesToEnd c it now kept
   done_complete command.Check m done quiet = ⊎_elim (λ is. inl is) (λ fault. absurd (quiet (done.written.risen fault))) done.ended
   done_complete (command.Sim g o) m done quiet = λ guests.
       ⊎_elim (λ is. finished_status g m kept done.coherent guests now is) (λ fault. absurd (quiet (done.written.risen fault))) done.ended
   done_complete (command.Run o) m done quiet = λ guests.
-      ⊎_elim (λ is. uncut_status m (policy_answer m.policy) kept done.left.ends done.run.coherent guests now is) (λ fault. absurd (quiet (done.written.risen fault))) done.ended
+      ⊎_elim (λ is. uncut_status m (policy_answer m.policy) kept done.left.ends done.run.coherent guests now is)
+      (λ fault. absurd (quiet (done.written.risen fault))) done.ended
   done_complete (command.Gen n) it done quiet = ⊎_elim (λ is. inl is) (λ fault. absurd (quiet (done.written.risen fault))) done.ended
   done_complete (command.Big n) it done quiet = ⊎_elim (λ is. inl is) (λ fault. absurd (quiet (done.written.risen fault))) done.ended
   done_complete command.Race h done quiet = λ good. ⊎_elim (λ is. inl is) (λ fault. absurd (quiet (done.written.risen fault))) done.ended
@@ -141,7 +154,8 @@ bad_is_not_good h bad first good = some_is_not_none bad (sym first ∙ good)
     some_is_not_none bad is = cc
 
 -- a history that is bad is not one of a run that is done
-found_complete : (c : Command) (it : Told (input_of c)) (bad : Bad) (now : Status) (kept : List Item) → IsFirstBad c it bad → ComesToEnd c it now kept
+found_complete : (c : Command) (it : Told (input_of c)) (bad : Bad) (now : Status) (kept : List Item) → IsFirstBad c it bad →
+    ComesToEnd c it now kept
 found_complete command.Check m bad now kept first = absurd first
 found_complete (command.Sim g o) m bad now kept first = absurd first
 found_complete (command.Run o) m bad now kept first = absurd first
@@ -161,7 +175,8 @@ stop_is_silent (stop.Refused r) = refl
 stop_is_silent stop.ReadFault = refl
 stop_is_silent stop.OutOfMemory = refl
 
-stop_may_end : {S : Type 0} (c : Command) (before after : S) (s : Stop) → StopsAs (input_of c) before after s → may_end c (stop_status s) ≡ true
+stop_may_end : {S : Type 0} (c : Command) (before after : S) (s : Stop) → StopsAs (input_of c) before after s →
+    may_end c (stop_status s) ≡ true
 stop_may_end command.Check before after (stop.Refused r) may = refl
 stop_may_end command.Check before after stop.ReadFault may = refl
 stop_may_end command.Check before after stop.OutOfMemory may = refl
@@ -195,7 +210,8 @@ stop_unread nothing before after (stop.Refused r) may none = absurd may
 stop_unread nothing before after stop.ReadFault may none = absurd may
 stop_unread nothing before after stop.OutOfMemory may none = may
 
-read_unread : {S : Type 0} (i : Input) (source : Reader S) (before after : S) (it : Told i) → IsRead i source before after it → reads_some i ≡ false → after ≡ before
+read_unread : {S : Type 0} (i : Input) (source : Reader S) (before after : S) (it : Told i) → IsRead i source before after it →
+    reads_some i ≡ false → after ≡ before
 read_unread machine_text source before after it read none = absurd cc
 read_unread history_text source before after it read none = absurd cc
 read_unread nothing source before after it read none = read
@@ -206,7 +222,8 @@ stop_refusal i told before after (stop.Refused r) is = is
 stop_refusal i told before after stop.ReadFault is = tt
 stop_refusal i told before after stop.OutOfMemory is = tt
 
-stop_read_fault : (i : Input) (told : Option (List ℕ)) (before after : ℕ) (s : Stop) → IsStop i told before after s → stop_status s ≡ status.ReadFault → HasRisen before after
+stop_read_fault : (i : Input) (told : Option (List ℕ)) (before after : ℕ) (s : Stop) → IsStop i told before after s →
+    stop_status s ≡ status.ReadFault → HasRisen before after
 stop_read_fault i told before after (stop.Refused r) is fault = absurd cc
 stop_read_fault i told before after stop.ReadFault is fault = is
 stop_read_fault i told before after stop.OutOfMemory is fault = absurd cc
@@ -217,7 +234,8 @@ stop_no_bad stop.ReadFault P = tt
 stop_no_bad stop.OutOfMemory P = tt
 
 -- want of memory is free
-want_complete : (c : Command) (it : Told (input_of c)) (now : Status) (kept : List Item) → now ≡ status.OutOfMemory → ComesToEnd c it now kept
+want_complete : (c : Command) (it : Told (input_of c)) (now : Status) (kept : List Item) → now ≡ status.OutOfMemory →
+    ComesToEnd c it now kept
 want_complete command.Check m now kept want = inr want
 want_complete (command.Sim g o) m now kept want = λ guests. inl (inr want)
 want_complete (command.Run o) m now kept want = λ guests. inl (inr want)
@@ -281,7 +299,8 @@ module _ {K : Type 0} (c : Command) (sink : Ghosts K) (old new : K) (out : Outco
 
   -- with a status that writes nothing
   pub silent_complete :
-      (it : Told (input_of c)) (output : List ℕ) → is_silent out.status ≡ true → ComesToEnd c it out.status out.kept.items → CompletesWith c it output sink old new out
+      (it : Told (input_of c)) (output : List ℕ) → is_silent out.status ≡ true → ComesToEnd c it out.status out.kept.items →
+      CompletesWith c it output sink old new out
   silent_complete it output silent ends = record { ends = ends; whole = λ told. absurd (true_or_false (is_silent out.status) silent told) }
 
   wanting_with : (it : Told (input_of c)) (output : List ℕ) → out.status ≡ status.OutOfMemory → CompletesWith c it output sink old new out
@@ -293,12 +312,14 @@ module _ {K : Type 0} (c : Command) (sink : Ghosts K) (old new : K) (out : Outco
 -- ---- how much was taken
 
 -- the text is too long by either of two sayings
-pub takes_as : (i : Input) (told left : Option (List ℕ)) (P Q : Type 0) → (P → Q) → (Q → P) → TakesText i told left P → TakesText i told left Q
+pub takes_as : (i : Input) (told left : Option (List ℕ)) (P Q : Type 0) → (P → Q) → (Q → P) → TakesText i told left P →
+    TakesText i told left Q
 takes_as i told left P Q there back taken =
     (taken.0, taken.1, taken.2, (λ long. taken.3.0 (back long), λ all. there (taken.3.1 all)))
 
 -- a text that is not too long
-pub takes_short : (i : Input) (told left : Option (List ℕ)) (P Q : Type 0) → (P → ⊥) → (Q → ⊥) → TakesText i told left P → TakesText i told left Q
+pub takes_short : (i : Input) (told left : Option (List ℕ)) (P Q : Type 0) → (P → ⊥) → (Q → ⊥) → TakesText i told left P →
+    TakesText i told left Q
 takes_short i told left P Q unsaid other = takes_as i told left P Q (λ long. absurd (unsaid long)) (λ long. absurd (other long))
 
 -- where nothing is read
@@ -353,26 +374,31 @@ module _ {S K : Type 0} (c : Command) (Does : Told (input_of c) → K → K → 
   Accepted it = Works it ⊎ IsSomeAnd (bad_of out.status) (IsFirstBad c it) ⊎ IsNoRefusal out.status
 
   abbrev Comes : Told (input_of c) → Type 0
-  Comes it = IsQuiet (source.faults before) (source.faults after) → IsQuiet (sink.faults old) (sink.faults new) → CompletesWith c it (output it out.kept.items out.ran) sink old new out
+  Comes it = IsQuiet (source.faults before) (source.faults after) → IsQuiet (sink.faults old) (sink.faults new) →
+      CompletesWith c it (output it out.kept.items out.ran) sink old new out
 
   -- a call that did its work with what it read, which is all that the source can tell
   pub did_so :
-      (it : Told (input_of c)) → IsRead (input_of c) source before after it → Works it → is_silent out.status ≡ false → IsEnded c sink old new out
+      (it : Told (input_of c)) → IsRead (input_of c) source before after it → Works it → is_silent out.status ≡ false →
+      IsEnded c sink old new out
       → ((other : Told (input_of c)) → Works other → IsQuiet (sink.faults old) (sink.faults new)
       → CompletesWith c other (output other out.kept.items out.ran) sink old new out)
-      → IfTold (input_of c) (source.left before) (λ other. it ≡ other) → source.faults before ≤ source.faults after → TakesShort c source before after
+      → IfTold (input_of c) (source.left before) (λ other. it ≡ other) → source.faults before ≤ source.faults after →
+      TakesShort c source before after
       → PromisesDoing c Does output source sink before after old new out
   did_so it read works told ended comes only count short =
       record {
         done = λ not_silent. (it, read, works);
         bad = told_no_bad out.status (λ bad. HasRead (input_of c) source before after (λ other. IsFirstBad c other bad)) told;
-        accepted = told_more (input_of c) (source.left before) (λ other. it ≡ other) Accepted (λ other same. inl (subst Works same works)) only;
+        accepted = told_more (input_of c) (source.left before) (λ other. it ≡ other) Accepted (λ other same. inl (subst Works same works))
+            only;
         complete = told_more (input_of c) (source.left before) (λ other. it ≡ other) Comes
             (λ other same read_quiet quiet. comes other (subst Works same works) quiet) only;
         ended = ended;
         refused = told_no_refusal out.status (λ refused. IfSome (source.left before) (λ bytes. IsFault (input_of c) bytes refused)) told;
         read_fault = λ fault. absurd (true_or_false (is_silent out.status) (ap is_silent fault) told);
-        taken = takes_short (input_of c) (source.left before) (source.left after) ⊥ (out.status ≡ status.Refused too_long) (λ f. f) (told_not_long out.status told) short;
+        taken = takes_short (input_of c) (source.left before) (source.left after) ⊥ (out.status ≡ status.Refused too_long) (λ f. f)
+            (told_not_long out.status told) short;
         unread = read_unread (input_of c) source before after it read;
         count = count;
       }
@@ -381,13 +407,16 @@ module _ {S K : Type 0} (c : Command) (Does : Told (input_of c) → K → K → 
   found :
       (it : Told (input_of c)) (bad : Bad) → IsRead (input_of c) source before after it → IsFirstBad c it bad
       → out.status ≡ status.HistoryBad bad → out.kept.items ≡ [] → out.ran ≡ None → new ≡ old
-      → IfTold (input_of c) (source.left before) (λ other. it ≡ other) → source.faults before ≤ source.faults after → TakesShort c source before after
+      → IfTold (input_of c) (source.left before) (λ other. it ≡ other) → source.faults before ≤ source.faults after →
+      TakesShort c source before after
       → PromisesDoing c Does output source sink before after old new out
   found it bad read first ends kept none written only count short = record {
     done = λ told. absurd (true_or_false (is_silent out.status) (ap is_silent ends) told);
-    bad = subst (λ (now : Status). IfSome (bad_of now) (λ bad. HasRead (input_of c) source before after (λ it. IsFirstBad c it bad))) (sym ends)
+    bad = subst (λ (now : Status). IfSome (bad_of now) (λ bad. HasRead (input_of c) source before after (λ it. IsFirstBad c it bad)))
+        (sym ends)
         (it, read, first);
-    accepted = told_more (input_of c) (source.left before) (λ other. it ≡ other) Accepted (λ other same. inr (inl (is_bad other same))) only;
+    accepted = told_more (input_of c) (source.left before) (λ other. it ≡ other) Accepted (λ other same. inr (inl (is_bad other same)))
+        only;
     complete = told_more (input_of c) (source.left before) (λ other. it ≡ other) Comes
         (λ other same quiet wrote. silent_complete c sink old new out other (output other out.kept.items out.ran) (ap is_silent ends)
         (found_complete c other bad out.status out.kept.items (subst (λ it. IsFirstBad c it bad) same first))) only;
@@ -397,9 +426,11 @@ module _ {S K : Type 0} (c : Command) (Does : Told (input_of c) → K → K → 
       nothing_kept = λ h. kept;
       nothing_ran = λ h. none;
     };
-    refused = subst (λ (now : Status). IfSome (refusal_of now) (λ refused. IfSome (source.left before) (λ bytes. IsFault (input_of c) bytes refused))) (sym ends) tt;
+    refused = subst (λ (now : Status).
+        IfSome (refusal_of now) (λ refused. IfSome (source.left before) (λ bytes. IsFault (input_of c) bytes refused))) (sym ends) tt;
     read_fault = λ fault. absurd (bad_is_no_read_fault bad (sym ends ∙ fault));
-    taken = takes_short (input_of c) (source.left before) (source.left after) ⊥ (out.status ≡ status.Refused too_long) (λ f. f) (λ long. bad_not_long bad (sym ends ∙ long)) short;
+    taken = takes_short (input_of c) (source.left before) (source.left after) ⊥ (out.status ≡ status.Refused too_long) (λ f. f)
+        (λ long. bad_not_long bad (sym ends ∙ long)) short;
     unread = read_unread (input_of c) source before after it read;
     count = count;
   }
@@ -410,50 +441,65 @@ module _ {S K : Type 0} (c : Command) (Does : Told (input_of c) → K → K → 
 
   -- a command that stopped, and not because of its text if that is one
   pub stopped_so :
-      (s : Stop) → IsStop (input_of c) (source.left before) (source.faults before) (source.faults after) s → StopsAs (input_of c) before after s → HasStopped s old new out
+      (s : Stop) → IsStop (input_of c) (source.left before) (source.faults before) (source.faults after) s →
+      StopsAs (input_of c) before after s → HasStopped s old new out
       → IfTold (input_of c) (source.left before) (λ other. IsNoRefusal (stop_status s)) → source.faults before ≤ source.faults after
-      → TakesText (input_of c) (source.left before) (source.left after) (s ≡ stop.Refused too_long) → PromisesDoing c Does output source sink before after old new out
+      → TakesText (input_of c) (source.left before) (source.left after) (s ≡ stop.Refused too_long) →
+      PromisesDoing c Does output source sink before after old new out
   stopped_so s is may has free count taken =
       let silent : is_silent out.status ≡ true = ap is_silent has.ended ∙ stop_is_silent s in
       let why = subst IsNoRefusal (sym has.ended) in
       record {
         done = λ told. absurd (true_or_false (is_silent out.status) silent told);
-        bad = subst (λ (now : Status). IfSome (bad_of now) (λ bad. HasRead (input_of c) source before after (λ it. IsFirstBad c it bad))) (sym has.ended)
+        bad = subst (λ (now : Status). IfSome (bad_of now) (λ bad. HasRead (input_of c) source before after (λ it. IsFirstBad c it bad)))
+            (sym has.ended)
             (stop_no_bad s (λ bad. HasRead (input_of c) source before after (λ it. IsFirstBad c it bad)));
-        accepted = told_more (input_of c) (source.left before) (λ other. IsNoRefusal (stop_status s)) Accepted (λ other no_refusal. inr (inr (why no_refusal))) free;
-        complete = told_more (input_of c) (source.left before) (λ other. IsNoRefusal (stop_status s)) Comes (λ other no_refusal. comes other (why no_refusal)) free;
+        accepted = told_more (input_of c) (source.left before) (λ other. IsNoRefusal (stop_status s)) Accepted
+            (λ other no_refusal. inr (inr (why no_refusal))) free;
+        complete = told_more (input_of c) (source.left before) (λ other. IsNoRefusal (stop_status s)) Comes
+            (λ other no_refusal. comes other (why no_refusal)) free;
         ended = stopped_end c sink old new out s (stop_may_end c before after s may) has;
-        refused = subst (λ (now : Status). IfSome (refusal_of now) (λ refused. IfSome (source.left before) (λ bytes. IsFault (input_of c) bytes refused))) (sym has.ended)
+        refused = subst (λ (now : Status).
+            IfSome (refusal_of now) (λ refused. IfSome (source.left before) (λ bytes. IsFault (input_of c) bytes refused))) (sym has.ended)
             (stop_refusal (input_of c) (source.left before) (source.faults before) (source.faults after) s is);
-        read_fault = λ fault. stop_read_fault (input_of c) (source.left before) (source.faults before) (source.faults after) s is (sym has.ended ∙ fault);
-        taken = takes_as (input_of c) (source.left before) (source.left after) (s ≡ stop.Refused too_long) (out.status ≡ status.Refused too_long)
+        read_fault = λ fault. stop_read_fault (input_of c) (source.left before) (source.faults before) (source.faults after) s
+            is (sym has.ended ∙ fault);
+        taken = takes_as (input_of c) (source.left before) (source.left after) (s ≡ stop.Refused too_long)
+            (out.status ≡ status.Refused too_long)
             (λ long. has.ended ∙ ap stop_status long) (λ long. stop_long s (sym has.ended ∙ long)) taken;
         unread = stop_unread (input_of c) before after s may;
         count = count;
       }
     where
       comes : (other : Told (input_of c)) → IsNoRefusal out.status → Comes other
-      comes other (inl fault) = λ quiet wrote. absurd (quiet (stop_read_fault (input_of c) (source.left before) (source.faults before) (source.faults after) s is (sym has.ended ∙ fault)))
+      comes other (inl fault) = λ quiet wrote.
+          absurd (quiet (stop_read_fault (input_of c) (source.left before) (source.faults before) (source.faults after) s is (sym has.ended
+          ∙ fault)))
       comes other (inr want) = λ quiet wrote. wanting_with c sink old new out other (output other out.kept.items out.ran) want
 
   -- a command that ended before it did its work
   pub failed_so :
-      (now : Status) → HasFailed (input_of c) source (IsFirstBad c) before after now → out.status ≡ now → ((s : Stop) → StopsAs (input_of c) before after s)
+      (now : Status) → HasFailed (input_of c) source (IsFirstBad c) before after now → out.status ≡ now →
+      ((s : Stop) → StopsAs (input_of c) before after s)
       → out.kept.items ≡ [] → out.ran ≡ None → new ≡ old → source.faults before ≤ source.faults after
-      → TakesText (input_of c) (source.left before) (source.left after) (now ≡ status.Refused too_long) → PromisesDoing c Does output source sink before after old new out
+      → TakesText (input_of c) (source.left before) (source.left after) (now ≡ status.Refused too_long) →
+      PromisesDoing c Does output source sink before after old new out
   failed_so now has is may kept none unwritten count taken =
       ⊎_elim
-      (λ why. stopped_so why.why why.stopped (may why.why) (record { ended = is ∙ why.ended; history = kept; no_threads = none; sink = unwritten }) why.no_refusal count
+      (λ why. stopped_so why.why why.stopped (may why.why)
+      (record { ended = is ∙ why.ended; history = kept; no_threads = none; sink = unwritten }) why.no_refusal count
       (takes_as (input_of c) (source.left before) (source.left after) (now ≡ status.Refused too_long) (why.why ≡ stop.Refused too_long)
       (λ long. stop_long why.why (sym why.ended ∙ long)) (λ long. why.ended ∙ ap stop_status long) taken))
       (λ bad. found bad.it bad.bad bad.read bad.first (is ∙ bad.ended) kept none unwritten bad.only count
-      (takes_short (input_of c) (source.left before) (source.left after) (now ≡ status.Refused too_long) ⊥ (λ long. bad_not_long bad.bad (sym bad.ended ∙ long)) (λ f. f) taken)) has
+      (takes_short (input_of c) (source.left before) (source.left after) (now ≡ status.Refused too_long) ⊥
+      (λ long. bad_not_long bad.bad (sym bad.ended ∙ long)) (λ f. f) taken)) has
 
 module _ {S K : Type 0} (c : Command) (source : Reader S) (sink : Ghosts K) (before after : S) (old new : K) (out : Outcome) where
   -- the same for what the commands do
   pub did :
       (it : Told (input_of c)) → IsRead (input_of c) source before after it → HasDone c sink it old new out.status out.kept.items out.ran
-      → IfTold (input_of c) (source.left before) (λ other. it ≡ other) → source.faults before ≤ source.faults after → TakesShort c source before after
+      → IfTold (input_of c) (source.left before) (λ other. it ≡ other) → source.faults before ≤ source.faults after →
+      TakesShort c source before after
       → Promises c source sink before after old new out
   did it read works only count short =
       did_so c (HasDone c sink) (whole_output c) source sink before after old new out it read works
@@ -461,15 +507,19 @@ module _ {S K : Type 0} (c : Command) (source : Reader S) (sink : Ghosts K) (bef
       (λ other done quiet. did_complete c sink old new out other done quiet) only count short
 
   pub stopped :
-      (s : Stop) → IsStop (input_of c) (source.left before) (source.faults before) (source.faults after) s → StopsAs (input_of c) before after s → HasStopped s old new out
+      (s : Stop) → IsStop (input_of c) (source.left before) (source.faults before) (source.faults after) s →
+      StopsAs (input_of c) before after s → HasStopped s old new out
       → IfTold (input_of c) (source.left before) (λ other. IsNoRefusal (stop_status s)) → source.faults before ≤ source.faults after
-      → TakesText (input_of c) (source.left before) (source.left after) (s ≡ stop.Refused too_long) → Promises c source sink before after old new out
+      → TakesText (input_of c) (source.left before) (source.left after) (s ≡ stop.Refused too_long) →
+      Promises c source sink before after old new out
   stopped = stopped_so c (HasDone c sink) (whole_output c) source sink before after old new out
 
   pub failed :
-      (now : Status) → HasFailed (input_of c) source (IsFirstBad c) before after now → out.status ≡ now → ((s : Stop) → StopsAs (input_of c) before after s)
+      (now : Status) → HasFailed (input_of c) source (IsFirstBad c) before after now → out.status ≡ now →
+      ((s : Stop) → StopsAs (input_of c) before after s)
       → out.kept.items ≡ [] → out.ran ≡ None → new ≡ old → source.faults before ≤ source.faults after
-      → TakesText (input_of c) (source.left before) (source.left after) (now ≡ status.Refused too_long) → Promises c source sink before after old new out
+      → TakesText (input_of c) (source.left before) (source.left after) (now ≡ status.Refused too_long) →
+      Promises c source sink before after old new out
   failed = failed_so c (HasDone c sink) (whole_output c) source sink before after old new out
 
 -- ---- reading nothing
@@ -492,13 +542,15 @@ module _ {S K : Type 0} (source : Reader S) (sink : Ghosts K) (x : S) (old new :
       (n : ℕ) → HasPrinted sink (generated n) old new out.status out.kept.items out.ran ⊎ HasStopped stop.OutOfMemory old new out
       → Promises (command.Gen n) source sink x x old new out
   printed_or_not n =
-      ⊎_elim (λ done. did (command.Gen n) source sink x x old new out tt refl done refl (omega arith) (takes_nothing nothing (source.left x) ⊥ (λ f. f))) (wanting (command.Gen n))
+      ⊎_elim (λ done. did (command.Gen n) source sink x x old new out tt refl done refl (omega arith)
+      (takes_nothing nothing (source.left x) ⊥ (λ f. f))) (wanting (command.Gen n))
 
   pub summed_or_not :
       (n : ℕ) → HasSummed n sink (generated n) old new out.status out.kept.items out.ran ⊎ HasStopped stop.OutOfMemory old new out
       → Promises (command.Big n) source sink x x old new out
   summed_or_not n =
-      ⊎_elim (λ done. did (command.Big n) source sink x x old new out tt refl done refl (omega arith) (takes_nothing nothing (source.left x) ⊥ (λ f. f))) (wanting (command.Big n))
+      ⊎_elim (λ done. did (command.Big n) source sink x x old new out tt refl done refl (omega arith)
+      (takes_nothing nothing (source.left x) ⊥ (λ f. f))) (wanting (command.Big n))
 
 -- ---- reading a text
 
@@ -517,7 +569,8 @@ module _ (told left : Option (List ℕ)) (result : Result Config Stop) where
 
 module _ (told left : Option (List ℕ)) (result : Result Read Stop) where
   pub told_history :
-      (h : Read) → result ≡ Ok h → IfOk result (λ h. IsHistory (seen h)) → IfOk result (λ h. IfSome told (λ bytes. IsHistoryTextOf bytes (seen h)))
+      (h : Read) → result ≡ Ok h → IfOk result (λ h. IsHistory (seen h)) →
+      IfOk result (λ h. IfSome told (λ bytes. IsHistoryTextOf bytes (seen h)))
       → IfOk result (λ h. IfSome told (λ bytes. history_at bytes ≡ Ok (seen h))) → OnOk result (IsAtEnd left)
       → IsToldHistory told left (seen h)
   told_history h is ranges found exact all = record {

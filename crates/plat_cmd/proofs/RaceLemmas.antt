@@ -3,6 +3,7 @@ use Rattle.std.proofs.Common.{◌≡◌, ℕ, zero, suc, ◌<◌, true, List, []
 use Rattle.std.specs.Prelude.{nat_lt, Option, None, IfNone}
 use Rattle.std.specs.List.{AllByRecursion}
 use Rattle.std.proofs.lemmas.Bool.Decides.{nat_tests}
+use Rattle.std.proofs.lemmas.Bool.{lt-ltb}
 use Rattle.plat_base.specs.Histories.{IsLegalMemory}
 use Rattle.plat_base.specs.Machine.{Machine}
 use Rattle.plat_base.specs.declared.items.Item.{Item}
@@ -14,12 +15,9 @@ use Rattle.plat_race.specs.Races.{first_race}
 use Rattle.plat_race.specs.declared.pairs.Pair.{Pair}
 use Rattle.plat_cmd.specs.Races.{race_lines, race_text}
 
-below : (a b : ℕ) → a < b → nat_lt a b ≡ true
-below a b less = grind (arith, nat_tests)
-
 told_is_in_range : (m : Machine) (i : Item) → IsTold m i → is_in_range m i ≡ true
 told_is_in_range m (item.Access a) told =
-    rw (below a.actor m.nodes told.actor, below a.page m.pages told.page, below a.word m.words told.word) refl
+    rw (lt-ltb a.actor m.nodes told.actor, lt-ltb a.page m.pages told.page, lt-ltb a.word m.words told.word) refl
 told_is_in_range m (item.Change c) told = refl
 told_is_in_range m (item.Applied x) told = refl
 told_is_in_range m (item.Switch s) told = refl

@@ -44,7 +44,8 @@ pub over_turns_is : (m n : Machine) (answer other : Answer) (x y : Scheduled) (k
     → choose n.schedule (live_processors n x.coarse) x.chooser ≡ None → y ≡ scheduled_turn n other x → y ≡ scheduled m answer turns
 over_turns_is m n answer other x y k turns same alike before within none turned =
     over_is (scheduled m answer) (scheduled_turn m answer) (λ i. refl) x y k turns before within
-    (subst (λ (i : Machine). scheduled_turn i answer x ≡ x) same (still_is n answer x none)) (turned ∙ same_turn m n answer other x same alike)
+    (subst (λ (i : Machine). scheduled_turn i answer x ≡ x) same (still_is n answer x none))
+    (turned ∙ same_turn m n answer other x same alike)
 
 -- the run after all turns is the coarse run
 run_is : (m : Machine) (answer : Answer) (turns : ℕ) → turns ≡ m.nodes * m.budget → (scheduled m answer turns).coarse ≡ coarse_run m answer
@@ -60,4 +61,5 @@ made_is m n answer other x turns same alike all made =
 
 -- what holds of a history and ends holds of equal ones
 pub same_items : (P : List Item → List Ended → Type 0) (is js : List Item) (es fs : List Ended) → is ≡ js → es ≡ fs → P js fs → P is es
-same_items P is js es fs same_is same_es holds = subst (λ (x : List Item). P x es) (sym same_is) (subst (λ (x : List Ended). P js x) (sym same_es) holds)
+same_items P is js es fs same_is same_es holds =
+    subst (λ (x : List Item). P x es) (sym same_is) (subst (λ (x : List Ended). P js x) (sym same_es) holds)

@@ -15,7 +15,8 @@ module _ (turns : Turns) (among : List ℕ) (s : ScheduleSeen) (live q : ℕ) (p
   pub chosen_is : (after : ScheduleSeen) → after ≡ after_choice s (choice s live) → actor_chosen (choice s live) ≡ Some q
       → choose turns among s.chooser ≡ Some (q, after.chooser)
   chosen_is after kept chosen =
-      sym choice_of ∙ (choice_is s (choice s live) q chosen ∙ ap (λ (a : ScheduleSeen). let c : Option (ℕ × Chooser) = Some (q, a.chooser) in c) (sym kept))
+      sym choice_of ∙ (choice_is s (choice s live) q chosen
+      ∙ ap (λ (a : ScheduleSeen). let c : Option (ℕ × Chooser) = Some (q, a.chooser) in c) (sym kept))
 
 module _ {S : Type 0} (after : ℕ → S) (step : S → S) (one_more : (k : ℕ) → after (suc k) ≡ step (after k)) where
   pub next_is : (x y : S) (k : ℕ) → x ≡ after k → y ≡ step x → y ≡ after (k + 1)

@@ -1,5 +1,6 @@
 -- no machine text and no history text is refused as too long, but for its number of bytes
-use Rattle.std.proofs.Common.{◌≡◌, ◌≢◌, ℕ, zero, suc, ◌==◌, ◌+◌, ◌<◌, ◌≤◌, Bool, true, false, ◌||◌, List, [], ◌∷◌, ◌++◌, length, refl, sym, ◌∙◌, if◌then◌else◌, arith, subst, ap}
+use Rattle.std.proofs.Common.{◌≡◌, ◌≢◌, ℕ, zero, suc, ◌==◌, ◌+◌, ◌<◌, ◌≤◌, Bool, true, false, ◌||◌, List, [], ◌∷◌, ◌++◌, length, refl, sym}
+use Rattle.std.proofs.Common.{◌∙◌, if◌then◌else◌, arith, subst, ap}
 use Rattle.std.specs.Prelude.{Option, Some, None, Result, Ok, Err, nat_lt, nat_le, bytes_eq, codes, position}
 use Rattle.std.specs.Fmt.{decimal}
 use Rattle.std.specs.List.{slice_split}
@@ -16,14 +17,28 @@ use Rattle.plat_base.specs.declared.guests.Label.{Label}
 use Rattle.plat_base.specs.declared.items.Item.{Item}
 use Rattle.plat_base.specs.declared.endings.Ended.{Ended}
 use Rattle.plat_grammar.specs.Lines.{Word, number_of}
-use Rattle.plat_grammar.specs.Forms.{◌>>=◌, Row, Rest, Stop, refused, rows_of, row_length, row_at, word_at, first_word, read_as, one, exactly, number_in, any_number, number, below, number_below, nothing, ◌·◌, made, maybe, listed, chosen, choice, once, line_at, all_with, over}
-use Rattle.plat_grammar.specs.Drafts.{Draft, Target, register_below_16, numbered_register, register_of, register, name_of, target, address, two_registers, three_registers, set_line, move_line, add_line, sub_line, mul_line, and_line, shr_line, load_line, store_line, fadd_line, switch_line, print_line, jump_line, zero_line, less_line, halt_line, instructions, instruction_line, label_number, linked_to, linked_by, linked, code_from}
-use Rattle.plat_grammar.specs.FirstFault.{number_line, page_size, size_of, size_line, version_line, platinum_line, policies, policy_line, random_line, schedules, schedule_line, header_at, other_than, other_node, distance_line, entry_line, init_line, distances_at, entries_at, inits_at, name_after, label_line, body_line, ends_guest, body_from, body_at, guest_at, guests_from, end_line, front_at, machine_at, text_at}
+use Rattle.plat_grammar.specs.Forms.{◌>>=◌, Row, Rest, Stop, refused, rows_of, row_length, row_at, word_at, first_word, read_as, one}
+use Rattle.plat_grammar.specs.Forms.{exactly, number_in, any_number, number, below, number_below, nothing, ◌·◌, made, maybe, listed, chosen}
+use Rattle.plat_grammar.specs.Forms.{choice, once, line_at, all_with, over}
+use Rattle.plat_grammar.specs.Drafts.{Draft, Target, register_below_16, numbered_register, register_of, register, name_of, target, address}
+use Rattle.plat_grammar.specs.Drafts.{two_registers, three_registers, set_line, move_line, add_line, sub_line, mul_line, and_line, shr_line}
+use Rattle.plat_grammar.specs.Drafts.{load_line, store_line, fadd_line, switch_line, print_line, jump_line, zero_line, less_line, halt_line}
+use Rattle.plat_grammar.specs.Drafts.{instructions, instruction_line, label_number, linked_to, linked_by, linked, code_from}
+use Rattle.plat_grammar.specs.FirstFault.{number_line, page_size, size_of, size_line, version_line, platinum_line, policies, policy_line}
+use Rattle.plat_grammar.specs.FirstFault.{random_line, schedules, schedule_line, header_at, other_than, other_node, distance_line}
+use Rattle.plat_grammar.specs.FirstFault.{entry_line, init_line, distances_at, entries_at, inits_at, name_after, label_line, body_line}
+use Rattle.plat_grammar.specs.FirstFault.{ends_guest, body_from, body_at, guest_at, guests_from, end_line, front_at, machine_at, text_at}
 use Rattle.plat_grammar.specs.HistoryCanon.{History, point, colon, comma, most_items, most_history_bytes}
-use Rattle.plat_grammar.specs.HistoryForms.{named, kinds, causes, actions, removals, messages, moments, rights, endings, heads, expected, part_below, cut, wanted, frame_of, translation_of, granted_of, above, copies_from, copies_of, dir_parts, dir_of, access_line, change_line, applied_line, item_kinds, item_line, ended_line}
+use Rattle.plat_grammar.specs.HistoryForms.{named, kinds, causes, actions, removals, messages, moments, rights, endings, heads, expected}
+use Rattle.plat_grammar.specs.HistoryForms.{part_below, cut, wanted, frame_of, translation_of, granted_of, above, copies_from, copies_of}
+use Rattle.plat_grammar.specs.HistoryForms.{dir_parts, dir_of, access_line, change_line, applied_line, item_kinds, item_line, ended_line}
 use Rattle.plat_grammar.specs.HistoryForms.{switch_line as switched_line}
 use Rattle.plat_grammar.specs.HistoryFaults.{items_from, ends_from, told_at, lines_at, history_at}
-use Rattle.plat_cmd.proofs.FaultLemmas.{FineWord, word_then, word_if, fine-number_of, fine-exactly, fine-number_in, fine-number_below, Fine, fine_then, fine_if, FineLine, fine-word_at, fine-read_as, fine-one, fine-nothing, fine-both, fine-made, fine-maybe, fine-listed, FineKinds, fine-chosen, fine-choice, fine-once, FineStop, Keeps, keeps_then, line_then, last_then, keeps_if, missing-other, keeps-row_at, keeps-line_at, keeps-all_with, fine-over, fine-rows_of}
+use Rattle.plat_cmd.proofs.FaultLemmas.{FineWord, word_then, word_if, fine-number_of, fine-exactly, fine-number_in, fine-number_below, Fine}
+use Rattle.plat_cmd.proofs.FaultLemmas.{fine_then, fine_if, FineLine, fine-word_at, fine-read_as, fine-one, fine-nothing, fine-both}
+use Rattle.plat_cmd.proofs.FaultLemmas.{fine-made, fine-maybe, fine-listed, FineKinds, fine-chosen, fine-choice, fine-once, FineStop, Keeps}
+use Rattle.plat_cmd.proofs.FaultLemmas.{keeps_then, line_then, last_then, keeps_if, missing-other, keeps-row_at, keeps-line_at}
+use Rattle.plat_cmd.proofs.FaultLemmas.{keeps-all_with, fine-over, fine-rows_of}
 
 -- ---- the lines before the guests
 

@@ -1,5 +1,6 @@
 -- a run on threads: its merge has few items, breaks no rule, and every processor ended
-use Rattle.std.proofs.Common.{◌≡◌, ℕ, zero, suc, replicate, ◌<◌, ◌≤◌, true, false, Bool, List, [], ◌∷◌, length, refl, sym, ap, subst, ◌∙◌, arith}
+use Rattle.std.proofs.Common.{◌≡◌, ℕ, zero, suc, replicate, ◌<◌, ◌≤◌, true, false, Bool, List, [], ◌∷◌, length, refl, sym, ap, subst, ◌∙◌}
+use Rattle.std.proofs.Common.{arith}
 use Rattle.std.specs.Prelude.{Option, None, Some, Result, IsTrue, not, All, slice_get, slice_index_or, ◌||◌}
 use Rattle.std.specs.List.{list_any}
 use Rattle.std.specs.Option.{option_to_list, option_map_or}
@@ -22,7 +23,8 @@ use Rattle.plat_base.specs.declared.statuses.Status.{Status}
 use Rattle.plat_base.proofs.LimitLemmas.{limits_of}
 use Rattle.plat_base.proofs.RoomLemmas.{journal_rooms-most, lengths-most}
 use Rattle.plat_laws.specs.Guests.{IsWithinLimits}
-use Rattle.plat_events.specs.Merges.{Journals, ready_actor, next_item, without_next, items_left, placed_first, merge_step, merge_from, merged}
+use Rattle.plat_events.specs.Merges.{Journals, ready_actor, next_item, without_next, items_left, placed_first, merge_step, merge_from}
+use Rattle.plat_events.specs.Merges.{merged}
 use Rattle.plat_events.specs.Privates.{Private, is_over}
 use Rattle.plat_events.specs.Runs.{fine_start, run, ends_of, AllLive}
 use Rattle.plat_event_laws.proofs.LiveLaws.{live-among}
@@ -39,8 +41,9 @@ use Rattle.plat_cmd.specs.Works.{output_of, IsThreadRun, HasThreaded}
 use Rattle.plat_cmd.specs.Steps.{status_after}
 use Rattle.plat_cmd.specs.declared.words.Output.{Output}
 use Rattle.plat_cmd.proofs.EndingLemmas.{written_by, ended_by, no_write_fault}
-use Rattle.plat_cmd.proofs.FineRunLemmas.{filter-among}
 use Rattle.plat_cmd.proofs.GoodLemmas.{good_is_coherent}
+use Rattle.plat_base.proofs.ChoiceLemmas.{filter-among}
+use Rattle.plat_table.proofs.CrewLemmas.{All-get}
 
 -- ---- a merge places no more items than there are
 
@@ -82,9 +85,6 @@ rooms-some m h =
 
 -- ---- every processor ended
 
-all-at : {A : Type 0} (P : A → Type 0) (xs : List A) (i : ℕ) (x : A) → All P xs → slice_get xs i ≡ Some x → P x
-all-at P xs i x h there = subst P (get_or_from_slice_get xs i x x there) (h i x (slice_get_within xs i x there))
-
 -- an end that is so is found
 any-at : (p : Ended → Bool) (xs : List Ended) (i : ℕ) → i < length xs → p (slice_index_or xs i (cut_at 0)) ≡ true → list_any p xs ≡ true
 any-at p [] i inside h = absurd (omega (arith, inside))
@@ -103,7 +103,7 @@ module _ (m : Machine) (answer : Answer) (who : List ℕ) (limits : IsWithinLimi
       let s = run m answer who in
       let p = found.1.0 in
       let there = found.1.1 in
-      let is = all-at (λ (p : Private). is_over p.place ≡ true) s.privates found.0 p over there in
+      let is = All-get (λ (p : Private). is_over p.place ≡ true) s.privates found.0 p over there in
       true≢false
       (sym (filter-among (is_live s.privates) (numbers (length s.privates)) found.0 (live-among m answer s found.0 found.1))
       ∙ (ap (λ (o : Option Private). option_map_or (λ (p : Private). not (is_over p.place)) o false) there ∙ ap not is))

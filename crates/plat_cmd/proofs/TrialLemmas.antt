@@ -23,7 +23,8 @@ use Rattle.plat_cmd.specs.declared.outcomes.Stop.TheVariants as stop
 use Rattle.plat_cmd.proofs.EndingLemmas.{run_status, silent_run, uncut_status}
 use Rattle.plat_cmd.proofs.PromiseLemmas.{may_run, may_be_limited, true_or_false, TakesShort, did_so, stopped_so}
 
-module _ {S K : Type 0} (answer : Answer) (o : Output) (source : Reader S) (sink : Ghosts K) (before after : S) (old new : K) (out : Outcome) where
+module _ {S K : Type 0} (answer : Answer) (o : Output) (source : Reader S) (sink : Ghosts K) (before after : S) (old new : K)
+    (out : Outcome) where
   -- the command that the run promises as
   abbrev like : Command
   like = command.Sim grain.Coarse o
@@ -39,7 +40,8 @@ module _ {S K : Type 0} (answer : Answer) (o : Output) (source : Reader S) (sink
   ran_may_end : (m : Machine) → Ran m → may_end like out.status ≡ true
   ran_may_end m ran =
       let ends = ends_under grain.Coarse m answer in
-      ⊎_elim (λ is. ap (may_end like) is ∙ may_run like refl (status_of ends false) (run_status ends false) (may_be_limited ends false)) (λ is. ap (may_end like) is) ran.ended
+      ⊎_elim (λ is. ap (may_end like) is ∙ may_run like refl (status_of ends false) (run_status ends false) (may_be_limited ends false))
+      (λ is. ap (may_end like) is) ran.ended
 
   ran_end : (m : Machine) → Ran m → IsEnded like sink old new out
   ran_end m ran =
@@ -63,15 +65,21 @@ module _ {S K : Type 0} (answer : Answer) (o : Output) (source : Reader S) (sink
       → sink.holds new ≡ added (sink.holds old) (output_under answer o m out.kept.items out.ran)
   ran_whole m ran quiet = ran.written.whole (λ fault. quiet (ran.written.risen fault))
 
-  pub did_under : (m : Machine) → IsRead machine_text source before after m → Ran m → IfTold machine_text (source.left before) (λ other. m ≡ other)
-      → source.faults before ≤ source.faults after → TakesShort like source before after → PromisesUnder answer o source sink before after old new out
+  pub did_under : (m : Machine) → IsRead machine_text source before after m → Ran m →
+      IfTold machine_text (source.left before) (λ other. m ≡ other)
+      → source.faults before ≤ source.faults after → TakesShort like source before after →
+      PromisesUnder answer o source sink before after old new out
   did_under m read ran only count short =
-      did_so like (HasRun answer grain.Coarse o sink) (output_under answer o) source sink before after old new out m read ran (ran_is_told m ran) (ran_end m ran)
-      (λ other done quiet. record { ends = λ guests. ran_comes other done quiet guests; whole = λ told. ran_whole other done quiet }) only count short
+      did_so like (HasRun answer grain.Coarse o sink) (output_under answer o) source sink before after old new out m read ran
+      (ran_is_told m ran) (ran_end m ran)
+      (λ other done quiet. record { ends = λ guests. ran_comes other done quiet guests; whole = λ told. ran_whole other done quiet }) only
+      count short
 
-  pub stopped_under : (s : Stop) → IsStop machine_text (source.left before) (source.faults before) (source.faults after) s → HasStopped s old new out
+  pub stopped_under : (s : Stop) → IsStop machine_text (source.left before) (source.faults before) (source.faults after) s →
+      HasStopped s old new out
       → IfTold machine_text (source.left before) (λ other. IsNoRefusal (stop_status s)) → source.faults before ≤ source.faults after
       → TakesText machine_text (source.left before) (source.left after) (s ≡ stop.Refused too_long)
       → PromisesUnder answer o source sink before after old new out
   stopped_under s is has free count taken =
-      stopped_so like (HasRun answer grain.Coarse o sink) (output_under answer o) source sink before after old new out s is tt has free count taken
+      stopped_so like (HasRun answer grain.Coarse o sink) (output_under answer o) source sink before after old new out s is tt has free
+      count taken

@@ -41,7 +41,9 @@ pub fn are_plain(words: &[&str]) -> bool
 /// Reads plain words as the values of the argument `words`. It fails only for want of memory.
 pub fn arguments<'a>(alloc: Global, words: &'a [&'a str]) -> Result<ArgMatches<'a>, Error>
     requires { IsTrue (are_plain (texts_of words.now)) }
-    ensures values { IfOk result (λ matches. option_map raw_values (matched_of (found_of matches) (codes "words")) ≡ Some (texts_of words.entry.now)) }
+    ensures values { IfOk result (λ matches.
+        option_map raw_values (matched_of (found_of matches) (codes "words"))
+        ≡ Some (texts_of words.entry.now)) }
     ensures memory { IfErr result (λ error. kind_of error ≡ ErrorKind.OutOfMemory) }
 {
     let values = Arg::new(alloc, "words").num_args(1..=3);

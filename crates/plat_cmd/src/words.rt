@@ -58,7 +58,8 @@ pub enum WordsFault {
 
 /// The command that these words name, the program's name not among them.
 pub fn read_words(alloc: Global, words: &[&str]) -> Result<Command, WordsFault>
-    ensures command { IfOk (read_of (texts_of words.now)) (λ command. (result ≡ Ok command) ⊎ (result ≡ Err faults.OutOfMemory)) }
+    ensures command { IfOk (read_of (texts_of words.now)) (λ command. (result ≡ Ok command)
+        ⊎ (result ≡ Err faults.OutOfMemory)) }
     ensures bad_words { IfErr (read_of (texts_of words.now)) (λ _. result ≡ Err faults.BadWords) }
 {
     if !are_plain(words) {

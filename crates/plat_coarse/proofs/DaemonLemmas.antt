@@ -19,7 +19,7 @@ use Rattle.plat_coarse_laws.specs.Sound.{Sound}
 use Rattle.plat_coarse_laws.proofs.TurnItemLaws.{has_daemon-is_pass}
 use Rattle.plat_coarse_laws.proofs.TurnLaws.{thaws_sound}
 use Rattle.plat_coarse_laws.proofs.RoomLaws.{thaws-within}
-use Rattle.plat_coarse.proofs.NumberLemmas.{numbers-more}
+use Rattle.plat_base.proofs.ListLemmas.{numbers-more}
 
 pub pass_at : (p : PolicyKind) (t1 t2 now : ℕ) → p ≡ policy.Platinum t1 t2 → now % t2 ≡ 0 → is_pass p now ≡ true
 pass_at p t1 t2 now is divides = rw is (grind (arith, nat_tests))
@@ -74,7 +74,8 @@ IsThawed-length old now answer ends tick page is pass inside =
     subst P (sym is.machine)
     (subst Q (sym is.state) (thawed_below-length old.machine answer tick (state_of old ends) page pass inside))
 
-pub IsThawed-more : (old now next : Chronicled) (answer : Answer) (ends : List Ended) (tick page : ℕ) → IsThawed old now answer ends tick page
+pub IsThawed-more : (old now next : Chronicled) (answer : Answer) (ends : List Ended) (tick page : ℕ) →
+    IsThawed old now answer ends tick page
     → next.machine ≡ now.machine
     → state_of next ends ≡ thaw now.machine answer tick (state_of now ends) page
     → IsThawed old next answer ends tick (page + 1)

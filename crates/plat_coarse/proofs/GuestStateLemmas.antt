@@ -21,7 +21,8 @@ use Rattle.plat_base.specs.Ends.{time_of, ended_of}
 use Rattle.plat_base.specs.Coarse.{Coarse}
 use Rattle.plat_base.specs.Frames.{is_starved}
 use Rattle.plat_base.specs.Messages.{switch_items}
-use Rattle.plat_base.specs.Turns.{fault_made, access_made, made_by, guest_now, decided, thaw, thaw_items, fault_items, daemon, is_pass, turn, with_made, made_reached}
+use Rattle.plat_base.specs.Turns.{fault_made, access_made, made_by, guest_now, decided, thaw, thaw_items, fault_items, daemon, is_pass}
+use Rattle.plat_base.specs.Turns.{turn, with_made, made_reached}
 use Rattle.plat_base.specs.declared.guests.Want.{Want}
 use Rattle.plat_base.specs.declared.guests.Want.TheVariants as want
 use Rattle.plat_base.specs.declared.items.Kind.TheVariants as kind
@@ -47,22 +48,26 @@ values_wanted m items want.Trap = []
 module _ (m : Machine) (answer : Answer) (s : Coarse) (q now : ℕ) where
   fault_values : (entry : ℕ) (r : Reach) (v : Bool) → is_starved m s.history q r.page ≡ v
       → (fault_made m answer s q now entry r).end ≡ end.Cut
-      → values_of q (fault_made m answer s q now entry r).items ≡ (if reads_word r.kind then flat_value m s.history r.page r.word ∷ [] else [])
+      → values_of q (fault_made m answer s q now entry r).items
+      ≡ (if reads_word r.kind then flat_value m s.history r.page r.word ∷ [] else [])
   fault_values entry r true e h = absurd (let bad = rw e at h in cc)
   fault_values entry r false e h =
       rw e (turn_items.fault_items-values m s q now entry r (decided m answer s.history q r.page now (cause_of r.kind)))
 
   through_values : (entry : ℕ) (r : Reach) (t : Option Translation) → (access_made m answer s q now entry r t).end ≡ end.Cut
-      → values_of q (access_made m answer s q now entry r t).items ≡ (if reads_word r.kind then flat_value m s.history r.page r.word ∷ [] else [])
+      → values_of q (access_made m answer s q now entry r t).items
+      ≡ (if reads_word r.kind then flat_value m s.history r.page r.word ∷ [] else [])
   through_values entry r None h = fault_values entry r (is_starved m s.history q r.page) refl h
   through_values entry r (Some t) h = by (has_right r.kind (Some t)) refl h where
     by : (v : Bool) → has_right r.kind (Some t) ≡ v → (access_made m answer s q now entry r (Some t)).end ≡ end.Cut
-        → values_of q (access_made m answer s q now entry r (Some t)).items ≡ (if reads_word r.kind then flat_value m s.history r.page r.word ∷ [] else [])
+        → values_of q (access_made m answer s q now entry r (Some t)).items
+        ≡ (if reads_word r.kind then flat_value m s.history r.page r.word ∷ [] else [])
     by true e h = rw e (turn_items.access_by-values m s.history q r t.grant.frame t.seq)
     by false e h = rw e (fault_values entry r (is_starved m s.history q r.page) refl (rw e at h))
 
   reached_values : (r : Reach) (e : Option ℕ) → (made_reached m answer s q now r e).end ≡ end.Cut
-      → values_of q (made_reached m answer s q now r e).items ≡ (if reads_word r.kind then flat_value m s.history r.page r.word ∷ [] else [])
+      → values_of q (made_reached m answer s q now r e).items
+      ≡ (if reads_word r.kind then flat_value m s.history r.page r.word ∷ [] else [])
   reached_values r None h = absurd (cc)
   reached_values r (Some entry) h = through_values entry r (held m s.history q entry) h
 
@@ -85,7 +90,8 @@ state-add : (m : Machine) (q : ℕ) (vs : List ℕ) (r : GuestRun) (sp a o v : �
     → (guest_does m q (vs ++ v ∷ []) r (want.Access kind.Add sp a o)).state ≡ guest_after m q r.state v
 state-add m q vs r sp a o v used = rw (slice_get-append_at vs v [] r.used used) refl
 
-pub state-does : (m : Machine) (q : ℕ) (items : List Item) (vs : List ℕ) (r : GuestRun) (w : Want) → r.used ≡ length vs → wants_more w ≡ true
+pub state-does : (m : Machine) (q : ℕ) (items : List Item) (vs : List ℕ) (r : GuestRun) (w : Want) → r.used ≡ length vs →
+    wants_more w ≡ true
     → (guest_does m q (vs ++ values_wanted m items w) r w).state ≡ guest_after m q r.state (value_found m items w)
 state-does m q items vs r want.Local used more = refl
 state-does m q items vs r (want.Access kind.Load sp a o) used more =
@@ -114,9 +120,12 @@ values_of-thaw : (m : Machine) (answer : Answer) (now : ℕ) (s : Coarse) (page 
 values_of-thaw m answer now s page r = by (dir_of s.history page).frozen where
   none : values_of r (s.history ++ thaw_items m answer s now page) ≡ values_of r s.history
   none = values_of-append r s.history (thaw_items m answer s now page)
-      ∙ (ap (λ vs. values_of r s.history ++ vs) (values_of-no_operations r (thaw_items m answer s now page) (turn_items.thaw_items-operations m answer s now page r)) ∙ append-nil (values_of r s.history))
+      ∙ (ap (λ vs. values_of r s.history ++ vs)
+      (values_of-no_operations r (thaw_items m answer s now page) (turn_items.thaw_items-operations m answer s now page r))
+      ∙ append-nil (values_of r s.history))
 
-  by : (v : Bool) → values_of r (if v then record { history = s.history ++ thaw_items m answer s now page; ends = s.ends } else s).history ≡ values_of r s.history
+  by : (v : Bool) → values_of r (if v then record { history = s.history ++ thaw_items m answer s now page; ends = s.ends } else s).history
+      ≡ values_of r s.history
   by true = none
   by false = refl
 
@@ -146,7 +155,8 @@ others_fault m answer s q now entry r reach other = by (is_starved m s.history q
   by true e = rw e refl
   by false e = rw e
       (values_of-no_operations r (fault_items m s q now entry reach (decided m answer s.history q reach.page now (cause_of reach.kind)))
-      (turn_items.fault_items-operations_other m s q now entry reach (decided m answer s.history q reach.page now (cause_of reach.kind)) r other))
+      (turn_items.fault_items-operations_other m s q now entry reach (decided m answer s.history q reach.page now (cause_of reach.kind)) r
+      other))
 
 others_through : (m : Machine) (answer : Answer) (s : Coarse) (q now entry r : ℕ) (reach : Reach) (t : Option Translation) → q ≢ r
     → values_of r (access_made m answer s q now entry reach t).items ≡ []
@@ -182,11 +192,13 @@ pub guest_now-other : (m : Machine) (answer : Answer) (s : Coarse) (q r : ℕ) �
     → guest_now m (turn m answer s q) r ≡ guest_now m s r
 guest_now-other m answer s q r other =
     let values = values_of-turn m answer s q r
-    ∙ (ap (λ vs. values_of r s.history ++ vs) (values-others m answer s q (time_of s.ends + 1) r (want_of m q (guest_now m s q).state) other)
+    ∙ (ap (λ vs. values_of r s.history ++ vs)
+    (values-others m answer s q (time_of s.ends + 1) r (want_of m q (guest_now m s q).state) other)
     ∙ append-nil (values_of r s.history)) in
     let turns = ap (λ (es : List Ended). (ended_of es r).turns) (turn-ends m answer s q)
     ∙ ap (λ (e : Ended). e.turns) (ended_of-set_other s.ends q r _ (λ e. other (sym e))) in
-    ap (λ (vs : List ℕ). guest_run m r vs (ended_of (turn m answer s q).ends r).turns) values ∙ ap (λ (t : ℕ). guest_run m r (values_of r s.history) t) turns
+    ap (λ (vs : List ℕ). guest_run m r vs (ended_of (turn m answer s q).ends r).turns) values
+    ∙ ap (λ (t : ℕ). guest_run m r (values_of r s.history) t) turns
 
 -- the guest whose turn it was has executed its instruction on the word that it found
 pub guest_now-own : (m : Machine) (answer : Answer) (s : Coarse) (q : ℕ) → q < length s.ends

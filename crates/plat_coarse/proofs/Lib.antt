@@ -9,4 +9,3 @@ pub mod ReachLemmas
 pub mod GuestStateLemmas
 pub mod TurnLemmas
 pub mod StartLemmas
-pub mod TriedLemmas

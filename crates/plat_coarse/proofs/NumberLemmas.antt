@@ -1,22 +1,15 @@
 -- the numbers below a bound, one more at a time, and the first of them that passes a test
-use Rattle.std.proofs.Common.{◌≡◌, ℕ, zero, suc, ◌+◌, ◌-◌, ◌<◌, ◌≤◌, Bool, true, false, ◌||◌, List, [], ◌∷◌, ◌++◌, length, Some, None, refl, ap, ◌∙◌, inl, inr, arith, length-append}
+use Rattle.std.proofs.Common.{◌≡◌, ℕ, zero, suc, ◌+◌, ◌-◌, ◌<◌, ◌≤◌, Bool, true, false, ◌||◌, List, [], ◌∷◌, ◌++◌, length, Some, None, refl}
+use Rattle.std.proofs.Common.{ap, ◌∙◌, inl, inr, arith, length-append}
 use Rattle.std.specs.Prelude.{find}
 use Rattle.std.specs.List.{list_any, range_with_len}
 use Rattle.std.proofs.lemmas.Bool.{cases_eq}
-use Rattle.plat_laws.proofs.ItemLaws.{list_any-push}
 use Rattle.plat_base.specs.Pages.{numbers}
-
-range_with_len-split : (a n k b all : ℕ) → b ≡ a + n → all ≡ n + k → range_with_len a all ≡ range_with_len a n ++ range_with_len b k
-range_with_len-split a zero k b all start sum = grind arith
-range_with_len-split a (suc n) k b zero start sum = absurd (omega arith)
-range_with_len-split a (suc n) k b (suc all) start sum = grind (arith, range_with_len-split (a + 1) n k b all)
+use Rattle.plat_base.proofs.ListLemmas.{find-range_none, range_with_len-split, numbers-more, list_any-push}
 
 -- the numbers below a bound, and the others below a higher one
 numbers-split : (n k : ℕ) → n ≤ k → numbers k ≡ numbers n ++ range_with_len n (k - n)
 numbers-split n k above = range_with_len-split 0 n (k - n) n k (omega arith) (omega arith)
-
-pub numbers-more : (n : ℕ) → numbers (n + 1) ≡ numbers n ++ n ∷ []
-numbers-more n = range_with_len-split 0 n 1 n (n + 1) (omega arith) (omega arith)
 
 pub list_any_numbers-more : (test : ℕ → Bool) (n : ℕ) → list_any test (numbers (n + 1)) ≡ (list_any test (numbers n) || test n)
 list_any_numbers-more test n = ap (list_any test) (numbers-more n) ∙ list_any-push test (numbers n) n
@@ -32,11 +25,17 @@ by_parts-more f parts n = ap f (numbers-more n) ∙ parts (numbers n) (n ∷ [])
 
 pub by_parts-length : {X : Type 0} (f : List ℕ → List X) → IsByParts f → (n k : ℕ) → n ≤ k → length (f (numbers n)) ≤ length (f (numbers k))
 by_parts-length f parts n k above =
-    omega (arith, ap (λ ns. length (f ns)) (numbers-split n k above), ap length (parts (numbers n) (range_with_len n (k - n))), length-append (f (numbers n)) (f (range_with_len n (k - n))))
+    omega (
+      arith,
+      ap (λ ns. length (f ns)) (numbers-split n k above),
+      ap length (parts (numbers n) (range_with_len n (k - n))),
+      length-append (f (numbers n)) (f (range_with_len n (k - n))),
+    )
 
 -- ---- the first number that passes
 
-find_range_from : (test : ℕ → Bool) (a n i : ℕ) → ((k : ℕ) → a ≤ k → k < i → test k ≡ false) → a ≤ i → i < a + n → test i ≡ true → find test (range_with_len a n) ≡ Some i
+find_range_from : (test : ℕ → Bool) (a n i : ℕ) → ((k : ℕ) → a ≤ k → k < i → test k ≡ false) → a ≤ i → i < a + n → test i ≡ true →
+    find test (range_with_len a n) ≡ Some i
 find_range_from test a zero i before from within here = absurd (omega arith)
 find_range_from test a (suc n) i before from within here =
     elim (cases_eq a i) [
@@ -46,14 +45,7 @@ find_range_from test a (suc n) i before from within here =
           (find_range_from test (a + 1) n i (λ k above below. before k (omega arith) below) (omega arith) (omega arith) here)
     ]
 
-pub find_numbers_first : (test : ℕ → Bool) (n i : ℕ) → ((k : ℕ) → k < i → test k ≡ false) → i < n → test i ≡ true → find test (numbers n) ≡ Some i
+pub find_numbers_first : (test : ℕ → Bool) (n i : ℕ) → ((k : ℕ) → k < i → test k ≡ false) → i < n → test i ≡ true →
+    find test (numbers n) ≡ Some i
 find_numbers_first test n i before within here =
     find_range_from test 0 n i (λ k above below. before k below) (omega arith) (omega arith) here
-
-find_range_nowhere : (test : ℕ → Bool) (a n : ℕ) → ((k : ℕ) → a ≤ k → k < a + n → test k ≡ false) → find test (range_with_len a n) ≡ None
-find_range_nowhere test a zero none = refl
-find_range_nowhere test a (suc n) none =
-    rw (none a (omega arith) (omega arith)) (find_range_nowhere test (a + 1) n (λ k above below. none k (omega arith) (omega arith)))
-
-pub find_numbers_nowhere : (test : ℕ → Bool) (n : ℕ) → ((k : ℕ) → k < n → test k ≡ false) → find test (numbers n) ≡ None
-find_numbers_nowhere test n none = find_range_nowhere test 0 n (λ k above below. none k (omega arith))

@@ -1,7 +1,8 @@
 -- before its first turn the engine follows the empty history
-use Rattle.std.proofs.Common.{◌≡◌, ℕ, ◌<◌, ◌≤◌, List, [], length, true, refl, sym, ap, ◌∙◌, subst, arith}
+use Rattle.std.proofs.Common.{◌≡◌, ℕ, ◌+◌, ◌<◌, ◌≤◌, List, [], ◌∷◌, ◌++◌, length, true, refl, sym, ap, ◌∙◌, subst, inl, inr, arith}
 use Rattle.std.specs.Prelude.{slice_index_or, replicate}
-use Rattle.std.proofs.lemmas.List.{get_or-replicate, length-replicate}
+use Rattle.std.proofs.lemmas.Bool.{cases_eq}
+use Rattle.std.proofs.lemmas.List.{get_or-replicate, length-replicate, get_or_push, get_or_append_left}
 use Rattle.std.proofs.lemmas.List.Folds.{sum_by-replicate}
 use Rattle.plat_base.specs.Machine.{Machine}
 use Rattle.plat_base.specs.GuestRun.{guest_start}
@@ -22,13 +23,23 @@ use Rattle.plat_chronicle.specs.Chronicle.{Chronicled}
 use Rattle.plat_coarse.specs.CoarseSeen.{RunsOn}
 use Rattle.plat_coarse.specs.Running.{state_of}
 
+-- each of a list is what its number gives, once one more is
+pub each-pushed : {X : Type 0} (xs : List X) (x d : X) (f : ℕ → X) (n : ℕ) → length xs ≡ n → x ≡ f n →
+    ((q : ℕ) → q < n → slice_index_or xs q d ≡ f q) → (q : ℕ) → q < n + 1 → slice_index_or (xs ++ x ∷ []) q d ≡ f q
+each-pushed xs x d f n count is each q l = elim (cases_eq q n) [
+  | inl same ↦ subst (λ (k : ℕ). slice_index_or (xs ++ x ∷ []) k d ≡ f k) (sym same) (get_or_push xs x d n count ∙ is)
+  | inr differ ↦ get_or_append_left xs (x ∷ []) d q (omega (arith, l, differ, count)) ∙ each q (omega (arith, l, differ))
+]
+
 guest_now-start : (m : Machine) (q : ℕ) → q < m.nodes → (guest_now m (coarse_start m) q).state ≡ guest_start m q
 guest_now-start m q inside = rw (get_or-replicate m.nodes q (cut_at 0) (cut_at 0) inside) refl
 
-pub start_is : (m : Machine) (k : Chronicled) (ends : List Ended) → k.items ≡ [] → ends ≡ replicate m.nodes (cut_at 0) → state_of k ends ≡ coarse_start m
+pub start_is : (m : Machine) (k : Chronicled) (ends : List Ended) → k.items ≡ [] → ends ≡ replicate m.nodes (cut_at 0) →
+    state_of k ends ≡ coarse_start m
 start_is m k ends none cut = ap (λ is. record { history = is; ends = ends }) none ∙ ap (λ es. record { history = []; ends = es }) cut
 
-starts : (m : Machine) (k : Chronicled) (answer : Answer) (ends : List Ended) (guests : List GuestSeen) → IsWithinLimits m → k.machine ≡ m → k.items ≡ []
+starts : (m : Machine) (k : Chronicled) (answer : Answer) (ends : List Ended) (guests : List GuestSeen) → IsWithinLimits m → k.machine ≡ m →
+    k.items ≡ []
     → room m ≤ k.spare → ends ≡ replicate m.nodes (cut_at 0) → length guests ≡ m.nodes
     → ((q : ℕ) → q < m.nodes → slice_index_or guests q no_guest ≡ new_guest m q)
     → RunsOn (record { machine = m; items = k.items; spare = k.spare }) answer ends guests 0
@@ -47,7 +58,8 @@ starts m k answer ends guests machine same none spare cut count each = record {
   room = omega (arith, spare);
 }
 
-pub RunsOn-start : (m : Machine) (k : Chronicled) (answer : Answer) (ends : List Ended) (guests : List GuestSeen) → IsWithinLimits m → k.machine ≡ m → k.items ≡ []
+pub RunsOn-start : (m : Machine) (k : Chronicled) (answer : Answer) (ends : List Ended) (guests : List GuestSeen) → IsWithinLimits m →
+    k.machine ≡ m → k.items ≡ []
     → room m ≤ k.spare → ends ≡ replicate m.nodes (cut_at 0) → length guests ≡ m.nodes
     → ((q : ℕ) → q < m.nodes → slice_index_or guests q no_guest ≡ new_guest m q) → RunsOn k answer ends guests 0
 RunsOn-start m k answer ends guests machine same none spare cut count each =

@@ -1,8 +1,10 @@
 -- one turn of the engine is one turn of the coarse run
-use Rattle.std.proofs.Common.{◌≡◌, ◌≢◌, ℕ, ◌+◌, ◌<◌, ◌≤◌, List, ◌++◌, length, Bool, true, false, refl, sym, ap, ◌∙◌, subst, inl, inr, arith, length-append}
+use Rattle.std.proofs.Common.{◌≡◌, ◌≢◌, ℕ, ◌+◌, ◌<◌, ◌≤◌, List, ◌++◌, length, Bool, true, false, refl, sym, ap, ◌∙◌, subst, inl, inr, arith}
+use Rattle.std.proofs.Common.{length-append}
 use Rattle.std.specs.Prelude.{slice_set, slice_index_or, if◌then◌else◌}
 use Rattle.std.proofs.lemmas.Bool.{cases_eq}
 use Rattle.std.proofs.lemmas.List.{get_or_default, length-set, get_or-set_same, get_or-set_other}
+use Rattle.std.proofs.lemmas.Nat.{mul-le}
 use Rattle.plat_base.specs.Machine.{Machine}
 use Rattle.plat_base.specs.Alike.{same_end}
 use Rattle.plat_base.specs.GuestRun.{GuestRun, want_of, guest_after}
@@ -29,7 +31,6 @@ use Rattle.plat_coarse.specs.Advanced.{no_guest, guests_after}
 use Rattle.plat_chronicle.specs.Chronicle.{Chronicled}
 use Rattle.plat_coarse.specs.CoarseSeen.{RunsOn}
 use Rattle.plat_coarse.specs.Running.{state_of}
-use Rattle.plat_coarse.proofs.RoomLemmas.{product_most}
 use Rattle.plat_coarse.proofs.GuestStateLemmas.{guest_now-other, guest_now-own}
 
 end_within-after : (m : Machine) (turns : ℕ) (e : End) → end_within m.budget turns e ≡ end_after m turns e
@@ -50,7 +51,8 @@ goes_on m turns end.Cut h = refl
 pub settled_length : (ends ends_now : List Ended) (q : ℕ) (e : Ended) → ends_now ≡ slice_set ends q e → length ends_now ≡ length ends
 settled_length ends ends_now q e is = ap length is ∙ length-set ends q e
 
-module _ (k : Chronicled) (answer : Answer) (ends : List Ended) (guests : List GuestSeen) (t q : ℕ) (runs : RunsOn k answer ends guests t) (live : is_live ends q ≡ true) where
+module _ (k : Chronicled) (answer : Answer) (ends : List Ended) (guests : List GuestSeen) (t q : ℕ) (runs : RunsOn k answer ends guests t)
+    (live : is_live ends q ≡ true) where
   abbrev pub run_now : Coarse
   run_now = state_of k ends
 
@@ -68,8 +70,10 @@ module _ (k : Chronicled) (answer : Answer) (ends : List Ended) (guests : List G
 
   pub tick_below : t < 524288
   tick_below =
-      let below = time_of-less ends k.machine.budget q (λ r inside. runs.sound.turns r (omega (arith, inside, runs.sound.count))) (is_live-below ends q live) (runs.sound.left q live) in
-      let most = product_most (length ends) k.machine.budget 8 65536 (omega (arith, runs.sound.count, nodes-most k.machine runs.machine)) (budget-most k.machine runs.machine) in
+      let below = time_of-less ends k.machine.budget q (λ r inside. runs.sound.turns r (omega (arith, inside, runs.sound.count)))
+      (is_live-below ends q live) (runs.sound.left q live) in
+      let most = mul-le (length ends) k.machine.budget 8 65536 (omega (arith, runs.sound.count, nodes-most k.machine runs.machine))
+      (budget-most k.machine runs.machine) in
       omega (arith, below, most, runs.time)
 
   pub turns_below : (ended_of ends q).turns < k.machine.budget
@@ -107,16 +111,23 @@ module _ (k : Chronicled) (answer : Answer) (ends : List Ended) (guests : List G
 
   -- ---- after the turn proper, before the pass
 
-  module _ (next : Chronicled) (acted : Acted) (ends_now : List Ended) (machine : next.machine ≡ k.machine) (items : next.items ≡ k.items ++ made_now.items) (spare : next.spare + length made_now.items ≡ k.spare) (how : acted.end ≡ made_now.end) (ended : ends_now ≡ slice_set ends q (record { end = end_within k.machine.budget ((ended_of ends q).turns + 1) acted.end; turns = (ended_of ends q).turns + 1 })) where
+  module _ (next : Chronicled) (acted : Acted) (ends_now : List Ended) (machine : next.machine ≡ k.machine)
+      (items : next.items ≡ k.items ++ made_now.items) (spare : next.spare + length made_now.items ≡ k.spare)
+      (how : acted.end ≡ made_now.end)
+      (ended : ends_now ≡ slice_set ends q
+      (record { end = end_within k.machine.budget ((ended_of ends q).turns + 1) acted.end; turns = (ended_of ends q).turns + 1 })) where
     ends_are : ends_now ≡ (with_made k.machine run_now q made_now).ends
     ends_are =
         ended
-        ∙ (ap (λ (e : End). slice_set ends q (record { end = end_within k.machine.budget ((ended_of ends q).turns + 1) e; turns = (ended_of ends q).turns + 1 })) how
-        ∙ ap (λ (e : End). slice_set ends q (record { end = e; turns = (ended_of ends q).turns + 1 })) (end_within-after k.machine ((ended_of ends q).turns + 1) made_now.end))
+        ∙ (ap (λ (e : End). slice_set ends q
+        (record { end = end_within k.machine.budget ((ended_of ends q).turns + 1) e; turns = (ended_of ends q).turns + 1 })) how
+        ∙ ap (λ (e : End). slice_set ends q (record { end = e; turns = (ended_of ends q).turns + 1 }))
+        (end_within-after k.machine ((ended_of ends q).turns + 1) made_now.end))
 
     pub state_made : state_of next ends_now ≡ with_made k.machine run_now q made_now
     state_made =
-        ap (λ is. record { history = is; ends = ends_now }) items ∙ ap (λ es. record { history = k.items ++ made_now.items; ends = es }) ends_are
+        ap (λ is. record { history = is; ends = ends_now }) items
+        ∙ ap (λ es. record { history = k.items ++ made_now.items; ends = es }) ends_are
 
     pub made_is_sound : Sound next.machine answer (state_of next ends_now)
     made_is_sound =
@@ -129,7 +140,8 @@ module _ (k : Chronicled) (answer : Answer) (ends : List Ended) (guests : List G
     passed_is =
         ap (λ (m : Machine). daemon m answer (t + 1) (state_of next ends_now)) machine
         ∙ (ap (daemon k.machine answer (t + 1)) state_made
-        ∙ ap (λ (tick : ℕ). daemon k.machine answer (tick + 1) (with_made k.machine run_now q (made_by k.machine answer run_now q (tick + 1) want_now))) runs.time)
+        ∙ ap (λ (tick : ℕ). daemon k.machine answer (tick + 1)
+        (with_made k.machine run_now q (made_by k.machine answer run_now q (tick + 1) want_now))) runs.time)
 
     pub passed_length : length (daemon next.machine answer (t + 1) (state_of next ends_now)).history ≤ length next.items + next.spare
     passed_length =
@@ -145,28 +157,36 @@ module _ (k : Chronicled) (answer : Answer) (ends : List Ended) (guests : List G
 
   guests_length : (acted : Acted) → length (guests_after k.machine guests q acted) ≡ length guests
   guests_length acted = by (same_end acted.end end.Cut) where
-    by : (v : Bool) → length (if v then slice_set guests q (stepped k.machine (slice_index_or guests q no_guest) acted.value) else guests) ≡ length guests
+    by : (v : Bool) → length (if v then slice_set guests q (stepped k.machine (slice_index_or guests q no_guest) acted.value) else guests)
+        ≡ length guests
     by true = length-set guests q _
     by false = refl
 
-  guests_other : (acted : Acted) (r : ℕ) → r ≢ q → slice_index_or (guests_after k.machine guests q acted) r no_guest ≡ slice_index_or guests r no_guest
+  guests_other : (acted : Acted) (r : ℕ) → r ≢ q → slice_index_or (guests_after k.machine guests q acted) r no_guest
+      ≡ slice_index_or guests r no_guest
   guests_other acted r other = by (same_end acted.end end.Cut) where
-    by : (v : Bool) → slice_index_or (if v then slice_set guests q (stepped k.machine (slice_index_or guests q no_guest) acted.value) else guests) r no_guest ≡ slice_index_or guests r no_guest
+    by : (v : Bool) → slice_index_or (if v then slice_set guests q (stepped k.machine (slice_index_or guests q no_guest) acted.value)
+        else guests) r no_guest ≡ slice_index_or guests r no_guest
     by true = get_or-set_other guests q r _ no_guest other
     by false = refl
 
   guests_own : (acted : Acted) → acted.end ≡ end.Cut
       → slice_index_or (guests_after k.machine guests q acted) q no_guest ≡ stepped k.machine (slice_index_or guests q no_guest) acted.value
   guests_own acted goes =
-      rw goes (get_or-set_same guests q (stepped k.machine (slice_index_or guests q no_guest) acted.value) no_guest (omega (arith, node_below, runs.guests)))
+      rw goes (get_or-set_same guests q (stepped k.machine (slice_index_or guests q no_guest) acted.value) no_guest
+      (omega (arith, node_below, runs.guests)))
 
   own_node : (acted : Acted) → (slice_index_or (guests_after k.machine guests q acted) q no_guest).node ≡ q
   own_node acted = by (same_end acted.end end.Cut) where
     inside : q < length guests
     inside = omega (arith, node_below, runs.guests)
 
-    by : (v : Bool) → (slice_index_or (if v then slice_set guests q (stepped k.machine (slice_index_or guests q no_guest) acted.value) else guests) q no_guest).node ≡ q
-    by true = ap (λ (g : GuestSeen). g.node) (get_or-set_same guests q (stepped k.machine (slice_index_or guests q no_guest) acted.value) no_guest inside) ∙ runs.nodes q node_below
+    by : (v : Bool) →
+        (slice_index_or (if v then slice_set guests q (stepped k.machine (slice_index_or guests q no_guest) acted.value) else guests) q
+        no_guest).node ≡ q
+    by true = ap (λ (g : GuestSeen). g.node)
+        (get_or-set_same guests q (stepped k.machine (slice_index_or guests q no_guest) acted.value) no_guest inside)
+        ∙ runs.nodes q node_below
     by false = runs.nodes q node_below
 
   nodes_after : (acted : Acted) (r : ℕ) → r < k.machine.nodes → (slice_index_or (guests_after k.machine guests q acted) r no_guest).node ≡ r
@@ -186,7 +206,8 @@ module _ (k : Chronicled) (answer : Answer) (ends : List Ended) (guests : List G
       let is = is_live-set_same ends q _ (is_live-below ends q live) in
       goes_on k.machine ((ended_of ends q).turns + 1) _ (sym is ∙ (sym as_set ∙ h))
 
-  states_after : (acted : Acted) → acted.end ≡ made_now.end → acted.value ≡ value_found k.machine k.items want_now → (r : ℕ) → is_live turned.ends r ≡ true
+  states_after : (acted : Acted) → acted.end ≡ made_now.end → acted.value ≡ value_found k.machine k.items want_now → (r : ℕ) →
+      is_live turned.ends r ≡ true
       → (slice_index_or (guests_after k.machine guests q acted) r no_guest).state ≡ (guest_now k.machine turned r).state
   states_after acted how found r h = elim (cases_eq r q) [
     | inl same ↦
@@ -197,7 +218,8 @@ module _ (k : Chronicled) (answer : Answer) (ends : List Ended) (guests : List G
         let was = ap (λ (g : GuestSeen). g.state) (guests_own acted cut) in
         let node = runs.nodes q node_below in
         let state = runs.states q live in
-        subst (λ (x : ℕ). (slice_index_or (guests_after k.machine guests q acted) x no_guest).state ≡ (guest_now k.machine turned x).state) (sym same)
+        subst (λ (x : ℕ). (slice_index_or (guests_after k.machine guests q acted) x no_guest).state ≡ (guest_now k.machine turned x).state)
+        (sym same)
         (was
         ∙ (ap (λ (n : ℕ). guest_after k.machine n (slice_index_or guests q no_guest).state acted.value) node
         ∙ (ap (λ s. guest_after k.machine q s acted.value) state
@@ -211,7 +233,8 @@ module _ (k : Chronicled) (answer : Answer) (ends : List Ended) (guests : List G
   -- what the engine keeps after the turn
   pub RunsOn-turn : (acted : Acted) (last : Chronicled) (ends_now : List Ended) → last.machine ≡ k.machine → acted.end ≡ made_now.end
       → acted.value ≡ value_found k.machine k.items want_now → state_of last ends_now ≡ turn k.machine answer run_now q
-      → last.spare + length last.items ≡ k.spare + length k.items → RunsOn last answer ends_now (guests_after k.machine guests q acted) (t + 1)
+      → last.spare + length last.items ≡ k.spare + length k.items →
+      RunsOn last answer ends_now (guests_after k.machine guests q acted) (t + 1)
   RunsOn-turn acted last ends_now machine how found state spare =
       let back = sym machine in
       let ends_is : ends_now ≡ turned.ends = ap (λ (s : Coarse). s.ends) state in
@@ -219,19 +242,23 @@ module _ (k : Chronicled) (answer : Answer) (ends : List Ended) (guests : List G
         machine = subst (λ (m : Machine). IsWithinLimits m) back runs.machine;
         sound =
             subst (λ (m : Machine). Sound m answer (state_of last ends_now)) back
-            (subst (λ (s : Coarse). Sound k.machine answer s) (sym state) (turn_sound k.machine answer run_now q runs.machine runs.sound live));
+            (subst (λ (s : Coarse). Sound k.machine answer s) (sym state)
+            (turn_sound k.machine answer run_now q runs.machine runs.sound live));
         roomy =
             subst (λ (m : Machine). IsRoomy m (state_of last ends_now)) back
             (subst (λ (s : Coarse). IsRoomy k.machine s) (sym state) (turn_roomy k.machine answer run_now q runs.machine runs.roomy live));
-        time = ap (λ (n : ℕ). n + 1) runs.time ∙ sym (ap time_of ends_is ∙ turn-time k.machine answer run_now q (is_live-below ends q live));
+        time = ap (λ (n : ℕ). n + 1) runs.time
+            ∙ sym (ap time_of ends_is ∙ turn-time k.machine answer run_now q (is_live-below ends q live));
         guests = guests_length acted ∙ (runs.guests ∙ ap (λ (m : Machine). m.nodes) back);
         nodes =
-            subst (λ (m : Machine). (r : ℕ) → r < m.nodes → (slice_index_or (guests_after k.machine guests q acted) r no_guest).node ≡ r) back
+            subst (λ (m : Machine). (r : ℕ) → r < m.nodes → (slice_index_or (guests_after k.machine guests q acted) r no_guest).node ≡ r)
+            back
             (nodes_after acted);
         states =
             subst
             (λ (m : Machine). (r : ℕ) → is_live ends_now r ≡ true
-            → (slice_index_or (guests_after k.machine guests q acted) r no_guest).state ≡ (guest_now m (state_of last ends_now) r).state) back
+            → (slice_index_or (guests_after k.machine guests q acted) r no_guest).state ≡ (guest_now m (state_of last ends_now) r).state)
+            back
             (λ r h.
             states_after acted how found r (subst (λ (es : List Ended). is_live es r ≡ true) ends_is h)
             ∙ ap (λ (s : Coarse). (guest_now k.machine s r).state) (sym state));
@@ -258,8 +285,12 @@ module _ (k : Chronicled) (answer : Answer) (ends : List Ended) (guests : List G
   pub ended_at : (budget : ℕ) (acted : Acted) (e : End) (ends_now : List Ended) → budget ≡ k.machine.budget
       → e ≡ end_within budget ((ended_of ends q).turns + 1) acted.end
       → ends_now ≡ slice_set ends q (record { end = e; turns = (ended_of ends q).turns + 1 })
-      → ends_now ≡ slice_set ends q (record { end = end_within k.machine.budget ((ended_of ends q).turns + 1) acted.end; turns = (ended_of ends q).turns + 1 })
+      → ends_now ≡ slice_set ends q (record {
+        end = end_within k.machine.budget ((ended_of ends q).turns + 1) acted.end;
+        turns = (ended_of ends q).turns + 1;
+      })
   ended_at budget acted e ends_now same is set =
       set
       ∙ (ap (λ (x : End). slice_set ends q (record { end = x; turns = (ended_of ends q).turns + 1 })) is
-      ∙ ap (λ (b : ℕ). slice_set ends q (record { end = end_within b ((ended_of ends q).turns + 1) acted.end; turns = (ended_of ends q).turns + 1 })) same)
+      ∙ ap (λ (b : ℕ). slice_set ends q
+      (record { end = end_within b ((ended_of ends q).turns + 1) acted.end; turns = (ended_of ends q).turns + 1 })) same)

@@ -72,7 +72,8 @@ fn writes_made(kind: Kind) -> u32
 pub fn access_of(chronicle: &Chronicle, q: u32, reach: &Reached, frame: Frame, grant: u32) -> Access
     requires page { reach.now.page < chronicle.now.machine.pages }
     requires word { reach.now.word < chronicle.now.machine.words }
-    ensures { item.Access result ≡ access_by chronicle.now.machine chronicle.now.items q (reach_seen reach.now) frame grant }
+    ensures { item.Access result ≡ access_by chronicle.now.machine chronicle.now.items q
+        (reach_seen reach.now) frame grant }
 {
     let old = chronicle.value(reach.page, reach.word);
     Access {

@@ -3,7 +3,7 @@ ghost use Rattle.std.specs.Prelude.{◌≡◌, ◌≢◌, ℕ, ◌+◌, ◌/◌,
 ghost use Rattle.plat_base.specs.Ends.{ended_of};
 ghost use Rattle.plat_base.specs.Decide.{is_dir};
 ghost use Rattle.plat_base.specs.Directories.{dir_of};
-ghost use Rattle.plat_base.specs.Pages.{entry_at as entry_at_of};
+ghost use Rattle.plat_base.specs.Pages.{entry_at};
 ghost use Rattle.plat_laws.specs.Guests.{IsWithinLimits};
 ghost use Rattle.plat_coarse_laws.specs.Sound.{Sound};
 ghost use Rattle.plat_coarse.specs.Acted.{value_found, IsReachable, made_through, end_within, wants_more};
@@ -19,7 +19,7 @@ use crate::faults::{fault, thaw};
 use crate::messages::switch;
 use plat_base::{Config, End, Ended, Kind, Policy, PolicyKind, Want};
 use plat_chronicle::{Chronicle, has_right};
-use plat_guest::{Guest, entry_at};
+use plat_guest::Guest;
 
 /// What a turn did to its processor: how it ended, Cut where it did not, and the word that a load or fetch-and-add found.
 #[derive(Clone, Copy, Debug)]
@@ -45,7 +45,8 @@ fn access_through<P: Policy>(
     requires dirs { is_dir chronicle.old.machine (dir_of chronicle.old.items reach.now.page) ≡ true }
     requires room { HasRoom chronicle.old
         (made_through chronicle.old (P.answer policy.now) ends.now q now entry reach.now).items }
-    ensures end { result ≡ (made_through chronicle.old (P.answer policy.now) ends.now q now entry reach.now).end }
+    ensures end { result ≡ (made_through chronicle.old (P.answer policy.now) ends.now q now entry
+        reach.now).end }
     ensures added { HasAdded chronicle.old chronicle.new
         (made_through chronicle.old (P.answer policy.now) ends.now q now entry reach.now).items }
 {
@@ -79,19 +80,21 @@ fn access<P: Policy>(
     operand: u32,
 ) -> Acted
     requires processor { q < chronicle.old.machine.nodes }
-    requires dirs { (p : ℕ) → p < chronicle.old.machine.pages → is_dir chronicle.old.machine (dir_of chronicle.old.items p) ≡ true }
-    requires reached { entry_at_of chronicle.old.machine space (addr / chronicle.old.machine.words) ≢ None }
+    requires dirs { (p : ℕ) → p < chronicle.old.machine.pages →
+        is_dir chronicle.old.machine (dir_of chronicle.old.items p) ≡ true }
+    requires reached { entry_at chronicle.old.machine space (addr / chronicle.old.machine.words) ≢ None }
     requires room { let want = Want.Access kind space addr operand
         in HasRoom chronicle.old (made_now chronicle.old (P.answer policy.now) ends.now q now want).items }
     ensures end { let want = Want.Access kind space addr operand
         in result.end ≡ (made_now chronicle.old (P.answer policy.now) ends.now q now want).end }
-    ensures value { result.value ≡ value_found chronicle.old.machine chronicle.old.items (Want.Access kind space addr operand) }
+    ensures value { result.value ≡ value_found chronicle.old.machine chronicle.old.items
+        (Want.Access kind space addr operand) }
     ensures added { let want = Want.Access kind space addr operand
         in HasAdded chronicle.old chronicle.new
         (made_now chronicle.old (P.answer policy.now) ends.now q now want).items }
 {
     let cfg = chronicle.config();
-    let Some(entry) = entry_at(cfg, space, addr / cfg.words) else {
+    let Some(entry) = cfg.entry_at(space, addr / cfg.words) else {
         unreachable!();
     };
     let reach = reach_of(cfg, entry, kind, space, addr, operand);
@@ -113,9 +116,11 @@ pub fn act<P: Policy>(
     want: Want,
 ) -> Acted
     requires processor { q < chronicle.old.machine.nodes }
-    requires dirs { (p : ℕ) → p < chronicle.old.machine.pages → is_dir chronicle.old.machine (dir_of chronicle.old.items p) ≡ true }
+    requires dirs { (p : ℕ) → p < chronicle.old.machine.pages →
+        is_dir chronicle.old.machine (dir_of chronicle.old.items p) ≡ true }
     requires reached { IsReachable chronicle.old.machine want }
-    requires room { HasRoom chronicle.old (made_now chronicle.old (P.answer policy.now) ends.now q now want).items }
+    requires room { HasRoom chronicle.old
+        (made_now chronicle.old (P.answer policy.now) ends.now q now want).items }
     ensures end { result.end ≡ (made_now chronicle.old (P.answer policy.now) ends.now q now want).end }
     ensures value { result.value ≡ value_found chronicle.old.machine chronicle.old.items want }
     ensures added { HasAdded chronicle.old chronicle.new
@@ -150,7 +155,8 @@ fn still(end: End) -> Acted
 pub fn advance(guests: &mut Vec<Guest>, cfg: &Config, q: u32, acted: Acted)
     requires processor { q < length guests.old.items }
     requires node { (slice_index_or guests.old.items q no_guest).node < cfg.now.nodes }
-    requires goes { acted.end ≡ End.Cut → wants_more (wanted_by (machine cfg.now) (slice_index_or guests.old.items q no_guest)) ≡ true }
+    requires goes { acted.end ≡ End.Cut →
+        wants_more (wanted_by (machine cfg.now) (slice_index_or guests.old.items q no_guest)) ≡ true }
     ensures { guests.new.items ≡ guests_after (machine cfg.now) guests.old.items q acted }
 {
     if acted.end == End::Cut {
@@ -165,7 +171,8 @@ pub fn settle(ends: &mut Vec<Ended>, q: u32, end: End, budget: u32) -> End
     requires turns { (ended_of ends.old.items q).turns < 4294967295 }
     requires budget { (ended_of ends.old.items q).turns < budget }
     ensures end { result ≡ end_within budget ((ended_of ends.old.items q).turns + 1) end }
-    ensures ends { ends.new.items ≡ slice_set ends.old.items q (record { end = result; turns = (ended_of ends.old.items q).turns + 1 }) }
+    ensures ends { ends.new.items ≡ slice_set ends.old.items q
+        (record { end = result; turns = (ended_of ends.old.items q).turns + 1 }) }
 {
     let ended = &mut ends[q as usize];
     ended.turns += 1;
@@ -186,8 +193,10 @@ pub fn daemon<P: Policy>(chronicle: &mut Chronicle, policy: &P, ends: &[Ended], 
         ≤ length chronicle.old.items + chronicle.old.spare }
     requires few { length (daemon_now chronicle.old (P.answer policy.now) ends.now now).history ≤ 2621440 }
     ensures machine { chronicle.new.machine ≡ chronicle.old.machine }
-    ensures items { state_of chronicle.new ends.now ≡ daemon_now chronicle.old (P.answer policy.now) ends.now now }
-    ensures spare { chronicle.new.spare + length chronicle.new.items ≡ chronicle.old.spare + length chronicle.old.items }
+    ensures items { state_of chronicle.new ends.now
+        ≡ daemon_now chronicle.old (P.answer policy.now) ends.now now }
+    ensures spare { chronicle.new.spare + length chronicle.new.items
+        ≡ chronicle.old.spare + length chronicle.old.items }
 {
     let PolicyKind::Platinum { t2, .. } = chronicle.config().policy else {
         return;

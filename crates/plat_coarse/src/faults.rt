@@ -138,8 +138,10 @@ fn add_fault(
     requires entry { entry < length chronicle.old.machine.entries }
     requires page { reach.now.page < chronicle.old.machine.pages }
     requires word { reach.now.word < chronicle.old.machine.words }
-    requires room { HasRoom chronicle.old (fault_items_now chronicle.old ends.now q now entry reach.now decision.now) }
-    ensures { HasAdded chronicle.old chronicle.new (fault_items_now chronicle.old ends.now q now entry reach.now decision.now) }
+    requires room { HasRoom chronicle.old
+        (fault_items_now chronicle.old ends.now q now entry reach.now decision.now) }
+    ensures { HasAdded chronicle.old chronicle.new
+        (fault_items_now chronicle.old ends.now q now entry reach.now decision.now) }
 {
     let cause = reach.kind.cause();
     let grant = Grant {
@@ -178,7 +180,8 @@ pub fn fault<P: Policy>(
     requires dirs { is_dir chronicle.old.machine (dir_of chronicle.old.items reach.now.page) ≡ true }
     requires room { HasRoom chronicle.old
         (fault_made_now chronicle.old (P.answer policy.now) ends.now q now entry reach.now).items }
-    ensures end { result ≡ (fault_made_now chronicle.old (P.answer policy.now) ends.now q now entry reach.now).end }
+    ensures end { result ≡ (fault_made_now chronicle.old (P.answer policy.now) ends.now q now entry
+        reach.now).end }
     ensures added { HasAdded chronicle.old chronicle.new
         (fault_made_now chronicle.old (P.answer policy.now) ends.now q now entry reach.now).items }
 {
@@ -197,11 +200,13 @@ pub fn thaw<P: Policy>(chronicle: &mut Chronicle, policy: &P, ends: &[Ended], pa
     requires dirs { is_dir chronicle.old.machine (dir_of chronicle.old.items page) ≡ true }
     requires spare { length (thawed_now chronicle.old (P.answer policy.now) ends.now now page).history
         ≤ length chronicle.old.items + chronicle.old.spare }
-    requires few { length (thawed_now chronicle.old (P.answer policy.now) ends.now now page).history ≤ 2621440 }
+    requires few { length (thawed_now chronicle.old (P.answer policy.now) ends.now now
+        page).history ≤ 2621440 }
     ensures machine { chronicle.new.machine ≡ chronicle.old.machine }
     ensures items { state_of chronicle.new ends.now
         ≡ thawed_now chronicle.old (P.answer policy.now) ends.now now page }
-    ensures spare { chronicle.new.spare + length chronicle.new.items ≡ chronicle.old.spare + length chronicle.old.items }
+    ensures spare { chronicle.new.spare + length chronicle.new.items
+        ≡ chronicle.old.spare + length chronicle.old.items }
 {
     let dir = chronicle.dir(page);
     if !dir.frozen {

@@ -18,7 +18,8 @@ fn with_number(set: u64, number: u32) -> u64
 /// The set of the numbers of a module's frames that are copies of pages.
 fn used_numbers(chronicle: &Chronicle, module: u32) -> u64
     requires { «module» < 8 }
-    ensures { (number : ℕ) → number < 64 → (bit_at result number == 1) ≡ is_used chronicle.now.machine chronicle.now.items «module» number }
+    ensures { (number : ℕ) → number < 64 →
+        (bit_at result number == 1) ≡ is_used chronicle.now.machine chronicle.now.items «module» number }
 {
     let mut used = 0;
     for page in 0..chronicle.config().pages {

@@ -2,12 +2,14 @@
 ghost use Rattle.std.specs.Prelude.{◌≡◌, ◌+◌, ◌<◌, ◌≤◌, length, ◌++◌, Some};
 ghost use Rattle.plat_base.specs.Ends.{is_live as is_live_of};
 ghost use Rattle.plat_base.specs.Messages.{is_target as is_target_of, owed_for, owed, removes_some, message_of};
+ghost use Rattle.plat_base.specs.Pages.{entries_of_page, entries_of_space};
 ghost use Rattle.plat_base.specs.Seen.{machine};
-ghost use Rattle.plat_base.specs.Pages.{page_of, space_of};
 ghost use Rattle.plat_chronicle.specs.Chronicle.{HasAdded, HasRoom};
 ghost use Rattle.plat_coarse.specs.Running.{state_of, entry_interrupts_now, interrupts_now, switch_items_now};
 
-use plat_base::{Applied, Config, End, Ended, Message, Moment, Removed, Switch, Translation};
+use plat_base::{
+    Applied, Config, End, Ended, Message, Moment, PAGES, Removed, SPACES, Switch, Translation,
+};
 use plat_chronicle::Chronicle;
 
 /// Whether a change removes something.
@@ -38,37 +40,34 @@ pub fn is_live(ends: &[Ended], q: u32) -> bool
         .is_some_and(|ended| ended.end == End::Cut)
 }
 
-/// The number of entries of the address maps.
-fn entry_count(cfg: &Config) -> u32
-    ensures { result ≡ length cfg.now.entries.items }
+/// The numbers of the entries that lead to a page, rising. None leads to a page past the limit.
+fn entries_to(cfg: &Config, page: u32) -> &[u32]
+    ensures { result.now ≡ entries_of_page (machine cfg.now) page }
 {
-    cfg.entries.len() as u32
+    if page >= PAGES {
+        return &[];
+    }
+    cfg.entries_of_page(page)
 }
 
-/// The space that an entry is of.
-fn space_of_entry(cfg: &Config, entry: u32) -> u32
-    requires { entry < length cfg.now.entries.items }
-    ensures { result ≡ space_of (machine cfg.now) entry }
+/// The numbers of the entries that belong to a space, rising. None belongs to a space past the limit.
+fn entries_in(cfg: &Config, space: u32) -> &[u32]
+    ensures { result.now ≡ entries_of_space (machine cfg.now) space }
 {
-    cfg.space_of(entry)
-}
-
-/// The page that an entry leads to.
-fn page_of_entry(cfg: &Config, entry: u32) -> u32
-    requires { entry < length cfg.now.entries.items }
-    ensures page { result ≡ page_of (machine cfg.now) entry }
-    ensures within { result < cfg.now.pages }
-{
-    cfg.page_of(entry)
+    if space >= SPACES {
+        return &[];
+    }
+    cfg.entries_of_space(space)
 }
 
 /// Whether processor `r`, other than the initiator, is live, active in the entry's space, and holds the entry.
 fn is_target(chronicle: &Chronicle, ends: &[Ended], initiator: u32, entry: u32, r: u32) -> bool
     requires processor { r < chronicle.now.machine.nodes }
     requires entry { entry < length chronicle.now.machine.entries }
-    ensures { result ≡ is_target_of chronicle.now.machine (state_of chronicle.now ends.now) initiator entry r }
+    ensures { result ≡ is_target_of chronicle.now.machine (state_of chronicle.now ends.now) initiator entry
+        r }
 {
-    let space = space_of_entry(chronicle.config(), entry);
+    let space = chronicle.config().space_of(entry);
     r != initiator
         && is_live(ends, r)
         && chronicle.held(r, entry).is_some()
@@ -84,8 +83,10 @@ fn interrupt_entry(
     removed: Removed,
 )
     requires entry { entry < length chronicle.old.machine.entries }
-    requires room { HasRoom chronicle.old (entry_interrupts_now chronicle.old ends.now initiator entry removed) }
-    ensures { HasAdded chronicle.old chronicle.new (entry_interrupts_now chronicle.old ends.now initiator entry removed) }
+    requires room { HasRoom chronicle.old
+        (entry_interrupts_now chronicle.old ends.now initiator entry removed) }
+    ensures { HasAdded chronicle.old chronicle.new
+        (entry_interrupts_now chronicle.old ends.now initiator entry removed) }
 {
     let message = message_of_removed(removed);
     for r in 0..chronicle.config().nodes {
@@ -101,7 +102,7 @@ fn interrupt_entry(
 }
 
 /// Interrupts the other processors before a change of a page that removes something: over the page's entries in rising
-/// number, and for each over the processors in rising number.
+/// number, and for each over the processors in rising number. Entries of other pages cost nothing.
 pub fn interrupt(
     chronicle: &mut Chronicle,
     ends: &[Ended],
@@ -110,15 +111,15 @@ pub fn interrupt(
     removed: Removed,
 )
     requires room { HasRoom chronicle.old (interrupts_now chronicle.old ends.now initiator page removed) }
-    ensures { HasAdded chronicle.old chronicle.new (interrupts_now chronicle.old ends.now initiator page removed) }
+    ensures { HasAdded chronicle.old chronicle.new
+        (interrupts_now chronicle.old ends.now initiator page removed) }
 {
     if !removes_some(removed) {
         return;
     }
-    for entry in 0..entry_count(chronicle.config()) {
-        if page_of_entry(chronicle.config(), entry) == page {
-            interrupt_entry(chronicle, ends, initiator, entry, removed);
-        }
+    for place in 0..entries_to(chronicle.config(), page).len() {
+        let entry = entries_to(chronicle.config(), page)[place];
+        interrupt_entry(chronicle, ends, initiator, entry, removed);
     }
 }
 
@@ -142,28 +143,28 @@ fn owed_message(chronicle: &Chronicle, q: u32, entry: u32) -> Option<Message>
     requires entry { entry < length chronicle.now.machine.entries }
     ensures { result ≡ owed chronicle.now.machine chronicle.now.items q entry }
 {
-    let page = page_of_entry(chronicle.config(), entry);
+    let page = chronicle.config().page_of(entry);
     let translation = chronicle.held(q, entry)?;
     owed_for(chronicle, q, page, translation)
 }
 
-/// Switches processor `q` to a space, and applies what waits for the entries of that space, in rising number.
+/// Switches processor `q` to a space, and applies what waits for the entries of that space, in rising number. Entries of
+/// other spaces cost nothing.
 pub fn switch(chronicle: &mut Chronicle, q: u32, space: u32)
     requires processor { q < chronicle.old.machine.nodes }
     requires room { HasRoom chronicle.old (switch_items_now chronicle.old q space) }
     ensures { HasAdded chronicle.old chronicle.new (switch_items_now chronicle.old q space) }
 {
     chronicle.add_switch(Switch { actor: q, space });
-    for entry in 0..entry_count(chronicle.config()) {
-        if space_of_entry(chronicle.config(), entry) == space {
-            if let Some(message) = owed_message(chronicle, q, entry) {
-                chronicle.add_applied(Applied {
-                    actor: q,
-                    entry,
-                    message,
-                    moment: Moment::Activation,
-                });
-            }
+    for place in 0..entries_in(chronicle.config(), space).len() {
+        let entry = entries_in(chronicle.config(), space)[place];
+        if let Some(message) = owed_message(chronicle, q, entry) {
+            chronicle.add_applied(Applied {
+                actor: q,
+                entry,
+                message,
+                moment: Moment::Activation,
+            });
         }
     }
 }

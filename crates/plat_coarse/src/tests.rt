@@ -4,30 +4,21 @@ ghost use Rattle.plat_base.specs.Machine.{is_machine, program_seen, programs_see
 ghost use Rattle.plat_base.specs.Canon.{is_short};
 ghost use Rattle.plat_base.specs.Seen.{machine};
 ghost use Rattle.plat_base.specs.declared.policies.PolicyKind.TheVariants as policy;
-ghost use Rattle.plat_coarse.specs.Tried.{guest, spin_label, trio_guests, tried, two_entries};
+ghost use Rattle.plat_coarse.specs.Tried.{labelled, spin_label, trio_guests, tried};
 
 use crate::{Coarse, Turned, most_turns};
 use plat_base::{
-    Access, Action, Applied, Cause, Change, Config, Copies, Dir, End, Ended, Entry, Frame, Grant,
-    GuestText, Init, Instr, Item, Kind, Label, List, Message, Moment, Name, OutOfMemory, Plan,
-    Policy, PolicyKind, Removed, Right, State, Switch, Verdict,
+    Access, Action, Applied, Cause, Change, Config, Copies, Dir, End, Ended, Frame, Grant,
+    GuestText, Init, Instr, Item, Kind, Label, List, Message, Moment, Name, OutOfMemory, Policy,
+    PolicyKind, Removed, Right, State, Switch,
 };
+use plat_samples::{AtMost, Sizes, entry, listed, one_guest, small, three_guests, two_guests};
 use std::alloc::Global;
 use std::test::Fail;
 
 // ---- machines
 
-fn listed<T: Copy>(alloc: Global, items: &[T]) -> Result<List<T>, OutOfMemory>
-    ensures { IfOk result (λ list. list.items ≡ items.now) }
-{
-    let mut list = List::with_room(alloc, items.len())?;
-    for item in items {
-        list.push(*item);
-    }
-    Ok(list)
-}
-
-fn labelled(alloc: Global, spin: Option<u32>) -> Result<List<Label>, OutOfMemory>
+fn spin_label(alloc: Global, spin: Option<u32>) -> Result<List<Label>, OutOfMemory>
     ensures { IfOk result (λ labels. labels.items ≡ spin_label spin) }
 {
     let mut labels = List::with_room(alloc, 1)?;
@@ -40,24 +31,14 @@ fn labelled(alloc: Global, spin: Option<u32>) -> Result<List<Label>, OutOfMemory
     Ok(labels)
 }
 
-fn guest(alloc: Global, code: &[Instr], spin: Option<u32>) -> Result<GuestText, OutOfMemory>
-    ensures { IfOk result (λ text. program_seen text ≡ guest code.now spin) }
+fn labelled(alloc: Global, code: &[Instr], spin: Option<u32>) -> Result<GuestText, OutOfMemory>
+    ensures { IfOk result (λ text. program_seen text ≡ labelled code.now spin) }
 {
     Ok(GuestText {
         space: 0,
         code: listed(alloc, code)?,
-        labels: labelled(alloc, spin)?,
+        labels: spin_label(alloc, spin)?,
     })
-}
-
-fn entry(number: u32) -> Entry
-    ensures { result ≡ record { space = 0; vpage = number; page = number } }
-{
-    Entry {
-        space: 0,
-        vpage: number,
-        page: number,
-    }
 }
 
 fn config(
@@ -70,36 +51,31 @@ fn config(
 ) -> Result<Config, OutOfMemory>
     requires limits { IsTrue (is_machine (tried nodes frames policy start (programs_seen guests.items))) }
     requires short { IsTrue (is_short (tried nodes frames policy start (programs_seen guests.items))) }
-    ensures { IfOk result (λ cfg. machine cfg ≡ tried nodes frames policy start (programs_seen guests.items)) }
+    ensures { IfOk result (λ cfg. machine cfg
+        ≡ tried nodes frames policy start (programs_seen guests.items)) }
 {
     let init = Init {
         page: 0,
         word: 0,
         value: start,
     };
-    Ok(Config {
+    let sizes = Sizes {
         nodes,
         frames,
-        words: 4,
         pages: 2,
-        policy,
         budget: 100,
-        schedule: Plan::Robin,
-        distances: List::new(alloc),
-        entries: listed(alloc, &[entry(0), entry(1)])?,
-        inits: listed(alloc, &[init])?,
-        guests,
-    })
+    };
+    let entries = [entry(0, 0), entry(1, 1)];
+    small(alloc, sizes, policy, &entries, &[init], guests)
 }
 
 // One node, with so many frames.
 fn alone(alloc: Global, frames: u32, code: &[Instr]) -> Result<Coarse, OutOfMemory>
-    requires limits { IsTrue (is_machine (tried 1 frames policy.Place 0 (guest code.now None ∷ []))) }
-    requires short { IsTrue (is_short (tried 1 frames policy.Place 0 (guest code.now None ∷ []))) }
+    requires limits { IsTrue (is_machine (tried 1 frames policy.Place 0 (labelled code.now None ∷ []))) }
+    requires short { IsTrue (is_short (tried 1 frames policy.Place 0 (labelled code.now None ∷ []))) }
     ensures { IfOk result (λ coarse. coarse.machine.nodes ≡ 1) }
 {
-    let mut guests = List::with_room(alloc, 1)?;
-    guests.push(guest(alloc, code, None)?);
+    let guests = one_guest(alloc, labelled(alloc, code, None)?)?;
     let cfg = config(alloc, 1, frames, PolicyKind::Place, 0, guests)?;
     Coarse::new(alloc, cfg)
 }
@@ -113,36 +89,16 @@ fn pair(
     first: &[Instr],
     second: &[Instr],
 ) -> Result<Coarse, OutOfMemory>
-    requires limits { IsTrue (is_machine (tried 2 4 policy start (guest first.now spin ∷ guest second.now None ∷ []))) }
-    requires short { IsTrue (is_short (tried 2 4 policy start (guest first.now spin ∷ guest second.now None ∷ []))) }
+    requires limits { IsTrue (is_machine
+        (tried 2 4 policy start (labelled first.now spin ∷ labelled second.now None ∷ []))) }
+    requires short { IsTrue (is_short
+        (tried 2 4 policy start (labelled first.now spin ∷ labelled second.now None ∷ []))) }
 {
-    let mut guests = List::with_room(alloc, 2)?;
-    guests.push(guest(alloc, first, spin)?);
-    guests.push(guest(alloc, second, None)?);
+    let first = labelled(alloc, first, spin)?;
+    let second = labelled(alloc, second, None)?;
+    let guests = two_guests(alloc, first, second)?;
     let cfg = config(alloc, 2, 4, policy, start, guests)?;
     Coarse::new(alloc, cfg)
-}
-
-// A page has at most so many copies: it is copied while it has fewer, and then it stays.
-#[derive(Clone, Copy)]
-struct AtMost {
-    copies: u32,
-}
-
-impl Policy for AtMost {
-    ghost use Rattle.plat_coarse.specs.Tried.{at_most, at_most-frozen};
-
-    ghost answer = { λ it. at_most it.copies };
-
-    ghost frozen_stays = { λ it. at_most-frozen it.copies };
-
-    fn verdict(&self, dir: &Dir, _last: Option<u32>, _now: u32) -> Verdict {
-        if dir.copies.count() < self.copies {
-            Verdict::Move
-        } else {
-            Verdict::Stay
-        }
-    }
 }
 
 // Three nodes of four frames each, whose text says that pages stay, under another policy.
@@ -155,10 +111,10 @@ fn trio(
     requires limits { IsTrue (is_machine (tried 3 4 policy.Place 9 (trio_guests first.now others.now))) }
     requires short { IsTrue (is_short (tried 3 4 policy.Place 9 (trio_guests first.now others.now))) }
 {
-    let mut guests = List::with_room(alloc, 3)?;
-    guests.push(guest(alloc, first, None)?);
-    guests.push(guest(alloc, others, None)?);
-    guests.push(guest(alloc, others, None)?);
+    let first = labelled(alloc, first, None)?;
+    let second = labelled(alloc, others, None)?;
+    let third = labelled(alloc, others, None)?;
+    let guests = three_guests(alloc, first, second, third)?;
     let cfg = config(alloc, 3, 4, PolicyKind::Place, 9, guests)?;
     Coarse::under(alloc, cfg, given)
 }

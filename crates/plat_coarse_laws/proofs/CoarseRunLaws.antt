@@ -8,7 +8,8 @@ use Rattle.plat_laws.proofs.FinishLaws.{coherent_run}
 use Rattle.plat_coarse_laws.proofs.TurnLaws.{run_good, run_no_frames}
 
 -- the coarse run of a machine within its limits
-pub coarse_run_coherent : (m : Machine) (answer : Answer) → IsTrue (is_machine m) → IsCoherentRun m answer (coarse_run m answer).history (coarse_run m answer).ends
+pub coarse_run_coherent : (m : Machine) (answer : Answer) → IsTrue (is_machine m) →
+    IsCoherentRun m answer (coarse_run m answer).history (coarse_run m answer).ends
 coarse_run_coherent m answer limits =
     coherent_run m answer (coarse_run m answer).history (coarse_run m answer).ends (run_good m answer limits)
     (λ enough q inside. run_no_frames m answer q limits enough inside)

@@ -40,10 +40,12 @@ copy_on-above : (low mo : ℕ) (fs : List Frame) (f : Frame) → modules_rise lo
 copy_on-above low mo [] f r h = absurd cc
 copy_on-above low mo (g ∷ gs) f r h = grind (arith, nat_tests, copy_on-above (g.module + 1) mo gs f)
 
-copy_on-place : (low k : ℕ) (fs : List Frame) (f : Frame) → modules_rise low fs ≡ true → k < length fs → slice_index_or fs k f ≡ f → copy_on f.module fs ≡ Some f
+copy_on-place : (low k : ℕ) (fs : List Frame) (f : Frame) → modules_rise low fs ≡ true → k < length fs → slice_index_or fs k f ≡ f →
+    copy_on f.module fs ≡ Some f
 copy_on-place low k [] f r l e = absurd (omega arith)
 copy_on-place low zero (g ∷ gs) f r l e = grind (arith, nat_tests)
-copy_on-place low (suc k) (g ∷ gs) f r l e = grind (arith, nat_tests, copy_on-place (g.module + 1) k gs f, copy_on-above (g.module + 1) f.module gs f)
+copy_on-place low (suc k) (g ∷ gs) f r l e =
+    grind (arith, nat_tests, copy_on-place (g.module + 1) k gs f, copy_on-above (g.module + 1) f.module gs f)
 
 copy_on-copy : (m : Machine) (dir : Dir) (f : Frame) → is_dir m dir ≡ true → IsCopy dir f → copy_on f.module dir.copies ≡ Some f
 copy_on-copy m dir f h c = copy_on-place 0 c.0 dir.copies f (dir_parts m dir h).1 c.1 c.2
@@ -68,12 +70,14 @@ coherent m answer s h = record {
     framed : IsFramed m s.history
     framed = good_framed m answer s.history h.sound.items h.takes
 
-    unremoved : (q e : ℕ) (t : Translation) → IsInUse m s q e t → (later removes_all s.history (page_of m e) t.seq ≡ false) × (t.grant.right ≡ right.Write → later removes_writes s.history (page_of m e) t.seq ≡ false)
+    unremoved : (q e : ℕ) (t : Translation) → IsInUse m s q e t → (later removes_all s.history (page_of m e) t.seq ≡ false)
+        × (t.grant.right ≡ right.Write → later removes_writes s.history (page_of m e) t.seq ≡ false)
     unremoved q e t u =
         let node : q < m.nodes = omega (arith, is_live-below s.ends q u.live, h.sound.count)
         in settled-hit m s q e t h.sound.settled u.live node u.of_entry u.here u.holds
 
-    copy : (q e : ℕ) (t : Translation) → IsInUse m s q e t → copy_on t.grant.frame.module (dir_of s.history (page_of m e)).copies ≡ Some t.grant.frame
+    copy : (q e : ℕ) (t : Translation) → IsInUse m s q e t → copy_on t.grant.frame.module (dir_of s.history (page_of m e)).copies
+        ≡ Some t.grant.frame
     copy q e t u = (current.leads q e t u.holds).copy (unremoved q e t u).0
 
 -- after so many turns of the coarse run
@@ -83,10 +87,12 @@ scheduled_coherent m answer k machine = coherent m answer (scheduled m answer k)
 -- ---- at each access
 
 -- an access of a good history that takes free frames
-finds_word : (m : Machine) (answer : Answer) (items : List Item) (ends : List Ended) → Good m answer items ends → TakesFree m [] items → AtEachAccess items (FindsFrameWord m)
+finds_word : (m : Machine) (answer : Answer) (items : List Item) (ends : List Ended) → Good m answer items ends → TakesFree m [] items →
+    AtEachAccess items (FindsFrameWord m)
 finds_word m answer items ends good free before rest a split =
     let first = subst (TakesFree m []) split free in
-    let framed = good_framed m answer before (before_none m answer items ends good before rest (item.Access a) split) (takes-front m [] before (item.Access a ∷ rest) first) in
+    let framed = good_framed m answer before (before_none m answer items ends good before rest (item.Access a) split)
+    (takes-front m [] before (item.Access a ∷ rest) first) in
     let found = found_at m answer items ends good before rest a split
     in found.1 ∙ sym (framed.words a.page a.word a.frame found.0 (at_copy_at m answer items ends good before rest a split).copy)
 

@@ -1,5 +1,6 @@
 -- free frames, and the frame that a fault takes
-use Rattle.std.proofs.Common.{◌≡◌, ◌≢◌, ℕ, zero, suc, ◌+◌, ◌<◌, ◌≤◌, if◌then◌else◌, ◌&&◌, not, nat_lt, Bool, true, false, List, [], ◌∷◌, Option, Some, None, refl, sym, ap, subst, ◌∙◌, arith}
+use Rattle.std.proofs.Common.{◌≡◌, ◌≢◌, ℕ, zero, suc, ◌+◌, ◌<◌, ◌≤◌, if◌then◌else◌, ◌&&◌, not, nat_lt, Bool, true, false, List, [], ◌∷◌}
+use Rattle.std.proofs.Common.{Option, Some, None, refl, sym, ap, subst, ◌∙◌, arith}
 use Rattle.std.specs.Prelude.{◌==◌, is_none, unwrap_or, find}
 use Rattle.std.specs.Option.{option_map}
 use Rattle.std.specs.List.{filter_map, cons_option, fold, range_with_len}
@@ -10,8 +11,9 @@ use Rattle.plat_base.specs.Pages.{numbers, distance}
 use Rattle.plat_base.specs.Alike.{same_verdict, same_right}
 use Rattle.plat_base.specs.Copies.{copy_on, same_frame}
 use Rattle.plat_base.specs.Directories.{dir_of, last_of}
-use Rattle.plat_base.specs.Decide.{is_frame, is_dir, is_empty, asks, nearer, nearest, decide, may_decide, fits_cause, is_frame_on, is_some_frame}
-use Rattle.plat_base.specs.Accesses.{cause_of, right_of}
+use Rattle.plat_base.specs.Decide.{is_frame, is_dir, is_empty, asks, nearer, nearest, decide, may_decide, fits_cause, is_frame_on}
+use Rattle.plat_base.specs.Decide.{is_some_frame}
+use Rattle.plat_base.specs.Accesses.{right_of}
 use Rattle.plat_base.specs.Frames.{is_used, frame_at, free_frame, nearest_in, nearest_free, got_frame, is_starved}
 use Rattle.plat_base.specs.Turns.{decided, change_by, grant_of}
 use Rattle.plat_base.specs.Rules.{got_named, is_decided, is_fault_decision}
@@ -19,8 +21,6 @@ use Rattle.plat_base.proofs.CopiesLemmas.{copy_on-module, same_frame-itself}
 use Rattle.plat_base.specs.declared.frames.Frame.{Frame}
 use Rattle.plat_base.specs.declared.items.Cause.{Cause}
 use Rattle.plat_base.specs.declared.items.Cause.TheVariants as cause
-use Rattle.plat_base.specs.declared.items.Kind.{Kind}
-use Rattle.plat_base.specs.declared.items.Kind.TheVariants as kind
 use Rattle.plat_base.specs.declared.items.Item.{Item}
 use Rattle.plat_base.specs.declared.policies.Verdict.TheVariants as verdict
 use Rattle.plat_base.specs.declared.policies.Decision.{Decision}
@@ -33,7 +33,8 @@ use Rattle.plat_laws.proofs.TableLaws.{DecideFacts, decide_facts, is_decided-cha
 has_number : ℕ → Option Frame → Bool
 has_number k o = unwrap_or (option_map (λ (f : Frame). f.number == k) o) false
 
-has_number-true : (mo k : ℕ) (o : Option Frame) → ((f : Frame) → o ≡ Some f → f.module ≡ mo) → has_number k o ≡ true → o ≡ Some (frame_at mo k)
+has_number-true : (mo k : ℕ) (o : Option Frame) → ((f : Frame) → o ≡ Some f → f.module ≡ mo) → has_number k o ≡ true →
+    o ≡ Some (frame_at mo k)
 unfolding has_number
 has_number-true mo k None on h = absurd cc
 has_number-true mo k (Some f) on h =
@@ -73,7 +74,8 @@ none_found : (mo : ℕ) (o : Option ℕ) → option_map (frame_at mo) o ≡ None
 none_found mo None h = refl
 none_found mo (Some n) h = absurd cc
 
-pub free_frame-none : (m : Machine) (items : List Item) (mo n : ℕ) → free_frame m items mo ≡ None → n < m.frames → is_used m items mo n ≡ true
+pub free_frame-none : (m : Machine) (items : List Item) (mo n : ℕ) → free_frame m items mo ≡ None → n < m.frames →
+    is_used m items mo n ≡ true
 free_frame-none m items mo n h l =
     let r = none_found mo (find (λ k. not (is_used m items mo k)) (numbers m.frames)) h in
     not-false (is_used m items mo n) (find_numbers-none (λ k. not (is_used m items mo k)) m.frames n r l)
@@ -89,7 +91,8 @@ either_holds : (P : Frame → Type 0) (test : Bool) (f g : Frame) → P f → P 
 either_holds P true f g h k = h
 either_holds P false f g h k = k
 
-nearest_holds : (P : Frame → Type 0) (m : Machine) (node : ℕ) (best : Frame) (fs : List Frame) → P best → Each P fs → P (fold (nearer m node) best fs)
+nearest_holds : (P : Frame → Type 0) (m : Machine) (node : ℕ) (best : Frame) (fs : List Frame) → P best → Each P fs →
+    P (fold (nearer m node) best fs)
 unfolding Each
 nearest_holds P m node best [] h k = h
 nearest_holds P m node best (f ∷ fs) h k =
@@ -97,7 +100,8 @@ nearest_holds P m node best (f ∷ fs) h k =
     (either_holds P (nat_lt (distance m node f.module) (distance m node best.module)) f best k.0 h)
     k.1
 
-nearest_in_holds : (P : Frame → Type 0) (m : Machine) (node : ℕ) (fs : List Frame) (f : Frame) → Each P fs → nearest_in m node fs ≡ Some f → P f
+nearest_in_holds : (P : Frame → Type 0) (m : Machine) (node : ℕ) (fs : List Frame) (f : Frame) → Each P fs → nearest_in m node fs ≡ Some f →
+    P f
 unfolding Each
 nearest_in_holds P m node [] f k h = absurd cc
 nearest_in_holds P m node (g ∷ gs) f k h =
@@ -107,7 +111,8 @@ nearest_in_holds P m node (g ∷ gs) f k h =
 IsFreeOn : Machine → List Item → Frame → Type 0
 IsFreeOn m items f = (f.module < m.nodes) × (free_frame m items f.module ≡ Some f)
 
-each_cons : (P : Frame → Type 0) (o : Option Frame) (fs : List Frame) → ((f : Frame) → o ≡ Some f → P f) → Each P fs → Each P (cons_option o fs)
+each_cons : (P : Frame → Type 0) (o : Option Frame) (fs : List Frame) → ((f : Frame) → o ≡ Some f → P f) → Each P fs →
+    Each P (cons_option o fs)
 unfolding Each
 each_cons P None fs h k = k
 each_cons P (Some f) fs h k = (h f refl, k)
@@ -118,7 +123,8 @@ free_on m items mo f l h =
     let e : f.module ≡ mo = (free_frame-some m items mo f h).on in
     (omega arith, ap (free_frame m items) e ∙ h)
 
-each_free : (m : Machine) (items : List Item) (a k : ℕ) → a + k ≤ m.nodes → Each (IsFreeOn m items) (filter_map (free_frame m items) (range_with_len a k))
+each_free : (m : Machine) (items : List Item) (a k : ℕ) → a + k ≤ m.nodes →
+    Each (IsFreeOn m items) (filter_map (free_frame m items) (range_with_len a k))
 unfolding Each
 each_free m items a zero l = tt
 each_free m items a (suc k) l =
@@ -126,31 +132,37 @@ each_free m items a (suc k) l =
     (λ f h. free_on m items a f (omega arith) h)
     (each_free m items (a + 1) k (omega arith))
 
-pub nearest_free-some : (m : Machine) (items : List Item) (n : ℕ) (f : Frame) → nearest_free m items n ≡ Some f → (f.module < m.nodes) × (free_frame m items f.module ≡ Some f)
+pub nearest_free-some : (m : Machine) (items : List Item) (n : ℕ) (f : Frame) → nearest_free m items n ≡ Some f →
+    (f.module < m.nodes) × (free_frame m items f.module ≡ Some f)
 unfolding IsFreeOn
 nearest_free-some m items n f h =
-    nearest_in_holds (IsFreeOn m items) m n (filter_map (free_frame m items) (numbers m.nodes)) f (each_free m items 0 m.nodes (omega arith)) h
+    nearest_in_holds (IsFreeOn m items) m n (filter_map (free_frame m items) (numbers m.nodes)) f
+    (each_free m items 0 m.nodes (omega arith)) h
 
 nearest_none : (m : Machine) (n : ℕ) (fs : List Frame) → nearest_in m n fs ≡ None → fs ≡ []
 nearest_none m n [] h = refl
 nearest_none m n (f ∷ fs) h = absurd cc
 
-pub nearest_free-none : (m : Machine) (items : List Item) (n mo : ℕ) → nearest_free m items n ≡ None → mo < m.nodes → free_frame m items mo ≡ None
+pub nearest_free-none : (m : Machine) (items : List Item) (n mo : ℕ) → nearest_free m items n ≡ None → mo < m.nodes →
+    free_frame m items mo ≡ None
 nearest_free-none m items n mo h l =
     filter_map_numbers-none (free_frame m items) m.nodes mo (nearest_none m n (filter_map (free_frame m items) (numbers m.nodes)) h) l
 
 -- ---- the frame that a fault takes
 
-free_is_frame : (m : Machine) (items : List Item) (f : Frame) → f.module < m.nodes → free_frame m items f.module ≡ Some f → is_frame m f ≡ true
+free_is_frame : (m : Machine) (items : List Item) (f : Frame) → f.module < m.nodes → free_frame m items f.module ≡ Some f →
+    is_frame m f ≡ true
 free_is_frame m items f l h =
     and_from (nat_lt f.module m.nodes) (nat_lt f.number m.frames) (lt-ltb f.module m.nodes l)
     (lt-ltb f.number m.frames (free_frame-some m items f.module f h).within)
 
-nearest_is_frame : (m : Machine) (items : List Item) (n : ℕ) (o : Option Frame) → nearest_free m items n ≡ o → is_none o ≡ false → is_some_frame m o ≡ true
+nearest_is_frame : (m : Machine) (items : List Item) (n : ℕ) (o : Option Frame) → nearest_free m items n ≡ o → is_none o ≡ false →
+    is_some_frame m o ≡ true
 nearest_is_frame m items n None e h = absurd cc
 nearest_is_frame m items n (Some f) e h = let r = nearest_free-some m items n f e in free_is_frame m items f r.0 r.1
 
-own_is_frame : (m : Machine) (items : List Item) (n : ℕ) (o : Option Frame) → n < m.nodes → free_frame m items n ≡ o → is_frame_on m n o ≡ true
+own_is_frame : (m : Machine) (items : List Item) (n : ℕ) (o : Option Frame) → n < m.nodes → free_frame m items n ≡ o →
+    is_frame_on m n o ≡ true
 own_is_frame m items n None l e = refl
 own_is_frame m items n (Some f) l e =
     let on : f.module ≡ n = (free_frame-some m items n f e).on in
@@ -176,7 +188,8 @@ got_fits m answer items n p now cause.Read h l st t =
 got_fits m answer items n p now cause.Write h l st t =
     let dir = dir_of items p in
     and_from (is_dir m dir) (fits_cause m answer dir (last_of items p) now n cause.Write (got_frame m answer items n p now cause.Write)) h
-    (taken_fits m items n (is_empty dir.state) (asks cause.Write dir n && same_verdict (answer dir (last_of items p) now) verdict.Move) l st)
+    (taken_fits m items n (is_empty dir.state) (asks cause.Write dir n && same_verdict (answer dir (last_of items p) now) verdict.Move) l
+    st)
 got_fits m answer items n p now cause.Thaw h l st t = absurd (t refl)
 
 -- what is known of that decision
@@ -184,7 +197,8 @@ pub fault_facts : (m : Machine) (answer : Answer) (items : List Item) (n p now :
     → is_dir m (dir_of items p) ≡ true → n < m.nodes → is_starved m items n p ≡ false → c ≢ cause.Thaw
     → DecideFacts m (dir_of items p) (got_frame m answer items n p now c) c (decided m answer items n p now c)
 fault_facts m answer items n p now c h l st t =
-    decide_facts m answer (dir_of items p) (last_of items p) now n c (got_frame m answer items n p now c) t (got_fits m answer items n p now c h l st t)
+    decide_facts m answer (dir_of items p) (last_of items p) now n c (got_frame m answer items n p now c) t
+    (got_fits m answer items n p now c h l st t)
 
 -- the rule of a fault's change, where the judge makes the decision d of the change
 judged : (items : List Item) (n p now e : ℕ) (c : Cause) (d : Decision) (may : Bool) (made : Decision) → may ≡ true → made ≡ d

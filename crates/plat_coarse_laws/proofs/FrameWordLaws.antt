@@ -1,5 +1,6 @@
 -- where each frame that is taken is free, pages share no frame, and a frame that is a copy of a page holds flat memory's words
-use Rattle.std.specs.Prelude.{◌≡◌, ◌≢◌, ◌⊎◌, ℕ, ◌+◌, ◌<◌, ◌==◌, ◌&&◌, if◌then◌else◌, Bool, true, false, List, [], ◌∷◌, ◌++◌, Option, Some, None}
+use Rattle.std.specs.Prelude.{◌≡◌, ◌≢◌, ◌⊎◌, ℕ, ◌+◌, ◌<◌, ◌==◌, ◌&&◌, if◌then◌else◌, Bool, true, false, List, [], ◌∷◌, ◌++◌, Option, Some}
+use Rattle.std.specs.Prelude.{None}
 use Rattle.std.proofs.Common.{refl, ap, sym, ◌∙◌, subst, inl, inr}
 use Rattle.std.proofs.lemmas.Bool.{eq-eqb, ne_eqb, cases_eq, true≢false}
 use Rattle.std.proofs.lemmas.Grind.{fold-append}
@@ -26,13 +27,15 @@ use Rattle.plat_base.specs.declared.items.Item.{Item}
 use Rattle.plat_base.specs.declared.items.Item.TheVariants as item
 use Rattle.plat_base.specs.declared.statuses.Rule.TheVariants as rule
 use Rattle.plat_base.proofs.CopiesLemmas.{same_frame-itself}
-use Rattle.plat_laws.proofs.ItemLaws.{dir_of-access, dir_of-applied, dir_of-change, dir_of-switch, flat_value-applied, flat_value-change, flat_value-switch}
+use Rattle.plat_laws.proofs.ItemLaws.{dir_of-access, dir_of-applied, dir_of-change, dir_of-switch, flat_value-applied, flat_value-change}
+use Rattle.plat_laws.proofs.ItemLaws.{flat_value-switch}
 use Rattle.plat_laws.proofs.SameLaws.{same_frame-true}
 use Rattle.plat_laws.proofs.ChangeLaws.{Took, IsGoodChange, good_change}
-use Rattle.plat_laws.proofs.AccessLaws.{legal-parts, kept_rule, both_here, access_parts, not_removed, by_grant}
+use Rattle.plat_laws.proofs.AccessLaws.{legal-parts, access_parts, not_removed, by_grant}
 use Rattle.plat_laws.proofs.CopyLaws.{IsCurrent, put_holds, flat_value-access, IsAtCopy, at_copy, current-start}
 use Rattle.plat_laws.proofs.CopyChangeLaws.{put_granted-holds, current-item}
 use Rattle.plat_coarse_laws.proofs.FreeLaws.{IsNobodys, IsFreeTake, TakesFree}
+use Rattle.plat_base.proofs.RuleLemmas.{unless-none, bad_at-none}
 
 -- pages below the machine's number share no frame, and the frames that are their copies hold flat memory's words
 pub record IsFramed (m : Machine) (items : List Item) : Type 0 where
@@ -43,7 +46,8 @@ pub record IsFramed (m : Machine) (items : List Item) : Type 0 where
       (p w : ℕ) (f : Frame) → p < m.pages → copy_on f.module (dir_of items p).copies ≡ Some f
       → frame_value m items w f ≡ flat_value m items p w
 
-frame_value-append : (m : Machine) (xs : List Item) (i : Item) (w : ℕ) (f : Frame) → frame_value m (xs ++ i ∷ []) w f ≡ frames_after m w (frame_value m xs w) i f
+frame_value-append : (m : Machine) (xs : List Item) (i : Item) (w : ℕ) (f : Frame) →
+    frame_value m (xs ++ i ∷ []) w f ≡ frames_after m w (frame_value m xs w) i f
 frame_value-append m xs i w f = ap (λ (words : InFrames). words f) (fold-append (frames_after m w) (λ g. 0) xs (i ∷ []))
 
 like_framed :
@@ -79,18 +83,23 @@ module _ (m : Machine) (xs : List Item) (a : Access) (l : a.page < m.pages) (at 
   was : (p : ℕ) (f : Frame) → copy_on f.module (dir_of after_access p).copies ≡ Some f → copy_on f.module (dir_of xs p).copies ≡ Some f
   was p f h = sym (ap (λ (x : Dir). copy_on f.module x.copies) (dir_of-access xs a p)) ∙ h
 
-  frames_at : (w : ℕ) (f : Frame) (b : Bool) → (is_write a.kind && a.word == w) ≡ b → frame_value m after_access w f ≡ (if b then put a.frame a.new (frame_value m xs w) else frame_value m xs w) f
-  frames_at w f b e = frame_value-append m xs (item.Access a) w f ∙ ap (λ (z : Bool). (if z then put a.frame a.new (frame_value m xs w) else frame_value m xs w) f) e
+  frames_at : (w : ℕ) (f : Frame) (b : Bool) → (is_write a.kind && a.word == w) ≡ b →
+      frame_value m after_access w f ≡ (if b then put a.frame a.new (frame_value m xs w) else frame_value m xs w) f
+  frames_at w f b e = frame_value-append m xs (item.Access a) w f
+      ∙ ap (λ (z : Bool). (if z then put a.frame a.new (frame_value m xs w) else frame_value m xs w) f) e
 
-  flat_at : (p w : ℕ) (b : Bool) → writes_word p w (item.Access a) ≡ b → flat_value m after_access p w ≡ if b then a.new else flat_value m xs p w
+  flat_at : (p w : ℕ) (b : Bool) → writes_word p w (item.Access a) ≡ b → flat_value m after_access p w ≡ if b then a.new
+      else flat_value m xs p w
   flat_at p w b e = flat_value-access m xs a p w ∙ ap (λ (z : Bool). if z then a.new else flat_value m xs p w) e
 
   -- its own page: a write finds this copy alone
-  own_words : (w : ℕ) (f : Frame) → copy_on f.module (dir_of xs a.page).copies ≡ Some f → (writes word : Bool) → is_write a.kind ≡ writes → (a.word == w) ≡ word → frame_value m after_access w f ≡ flat_value m after_access a.page w
+  own_words : (w : ℕ) (f : Frame) → copy_on f.module (dir_of xs a.page).copies ≡ Some f → (writes word : Bool) → is_write a.kind ≡ writes →
+      (a.word == w) ≡ word → frame_value m after_access w f ≡ flat_value m after_access a.page w
   own_words w f h false word e n =
       frames_at w f false (rw e refl) ∙ (k.words a.page w f l h ∙ sym (flat_at a.page w false (rw e refl)))
   own_words w f h true false e n =
-      frames_at w f false (rw (e, n) refl) ∙ (k.words a.page w f l h ∙ sym (flat_at a.page w false (rw (e, n, eq-eqb a.page a.page refl) refl)))
+      frames_at w f false (rw (e, n) refl)
+      ∙ (k.words a.page w f l h ∙ sym (flat_at a.page w false (rw (e, n, eq-eqb a.page a.page refl) refl)))
   own_words w f h true true e n =
       frames_at w f true (rw (e, n) refl)
       ∙ (put_holds a.frame f a.new a.new (frame_value m xs w) refl (λ other. absurd (one other))
@@ -116,7 +125,8 @@ module _ (m : Machine) (xs : List Item) (a : Access) (l : a.page < m.pages) (at 
       no_page false y = refl
 
   -- another page: the frame is not its copy
-  other_words : (p w : ℕ) (f : Frame) → p < m.pages → a.page ≢ p → copy_on f.module (dir_of xs p).copies ≡ Some f → (b : Bool) → (is_write a.kind && a.word == w) ≡ b → frame_value m after_access w f ≡ flat_value m after_access p w
+  other_words : (p w : ℕ) (f : Frame) → p < m.pages → a.page ≢ p → copy_on f.module (dir_of xs p).copies ≡ Some f → (b : Bool) →
+      (is_write a.kind && a.word == w) ≡ b → frame_value m after_access w f ≡ flat_value m after_access p w
   other_words p w f u d h false e = frames_at w f false e ∙ (k.words p w f u h ∙ sym (flat_at p w false (elsewhere p w d)))
   other_words p w f u d h true e =
       frames_at w f true e
@@ -126,7 +136,8 @@ module _ (m : Machine) (xs : List Item) (a : Access) (l : a.page < m.pages) (at 
       apart_put false n = refl
       apart_put true n =
           let same = same_frame-true a.frame f n in
-          let mine : copy_on f.module (dir_of xs a.page).copies ≡ Some f = subst (λ (x : Frame). copy_on x.module (dir_of xs a.page).copies ≡ Some x) same at.copy
+          let mine : copy_on f.module (dir_of xs a.page).copies ≡ Some f =
+          subst (λ (x : Frame). copy_on x.module (dir_of xs a.page).copies ≡ Some x) same at.copy
           in absurd (d (k.apart a.page p f l u mine h))
 
   framed-access : IsFramed m after_access
@@ -135,7 +146,8 @@ module _ (m : Machine) (xs : List Item) (a : Access) (l : a.page < m.pages) (at 
     words = λ p w f u h. by p w f u (was p f h) (cases_eq a.page p);
   }
     where
-      by : (p w : ℕ) (f : Frame) → p < m.pages → copy_on f.module (dir_of xs p).copies ≡ Some f → (a.page ≡ p) ⊎ (a.page ≢ p) → frame_value m after_access w f ≡ flat_value m after_access p w
+      by : (p w : ℕ) (f : Frame) → p < m.pages → copy_on f.module (dir_of xs p).copies ≡ Some f → (a.page ≡ p) ⊎ (a.page ≢ p) →
+          frame_value m after_access w f ≡ flat_value m after_access p w
       by p w f u h (inl same) =
           subst (λ (x : ℕ). frame_value m after_access w f ≡ flat_value m after_access x w) same
           (own_words w f (ap (λ (x : ℕ). copy_on f.module (dir_of xs x).copies) same ∙ h) (is_write a.kind) (a.word == w) refl refl)
@@ -144,7 +156,8 @@ module _ (m : Machine) (xs : List Item) (a : Access) (l : a.page < m.pages) (at 
 -- ---- a change puts words into a free frame
 
 -- a frame that the change did not take is as it was
-untaken : (m : Machine) (c : Change) (w : ℕ) (words : InFrames) (f : Frame) → (Took c f → ⊥) → (o : Option Grant) → c.granted ≡ o → put_granted m c.page w c o words f ≡ words f
+untaken : (m : Machine) (c : Change) (w : ℕ) (words : InFrames) (f : Frame) → (Took c f → ⊥) → (o : Option Grant) → c.granted ≡ o →
+    put_granted m c.page w c o words f ≡ words f
 untaken m c w words f none None granted = refl
 untaken m c w words f none (Some g) granted = by c.action refl
   where
@@ -164,25 +177,33 @@ untaken m c w words f none (Some g) granted = by c.action refl
     by action.Collapse is = refl
     by action.Thaw is = refl
 
-module _ (m : Machine) (xs : List Item) (c : Change) (current : IsCurrent m xs) (h : IsGoodChange m xs c) (free : (f : Frame) → Took c f → IsNobodys m xs f) (k : IsFramed m xs) where
+module _ (m : Machine) (xs : List Item) (c : Change) (current : IsCurrent m xs) (h : IsGoodChange m xs c) (free : (f : Frame) → Took c f →
+    IsNobodys m xs f) (k : IsFramed m xs) where
   abbrev after_change : List Item
   after_change = xs ++ item.Change c ∷ []
 
   at_own : (f : Frame) → copy_on f.module (dir_of after_change c.page).copies ≡ Some f → copy_on f.module c.after.copies ≡ Some f
-  at_own f e = sym (ap (λ (x : Dir). copy_on f.module x.copies) (dir_of-change xs c c.page ∙ ap (λ (b : Bool). if b then c.after else dir_of xs c.page) (eq-eqb c.page c.page refl))) ∙ e
+  at_own f e =
+      sym (ap (λ (x : Dir). copy_on f.module x.copies) (dir_of-change xs c c.page
+      ∙ ap (λ (b : Bool). if b then c.after else dir_of xs c.page) (eq-eqb c.page c.page refl))) ∙ e
 
-  at_other : (p : ℕ) (f : Frame) → c.page ≢ p → copy_on f.module (dir_of after_change p).copies ≡ Some f → copy_on f.module (dir_of xs p).copies ≡ Some f
-  at_other p f d e = sym (ap (λ (x : Dir). copy_on f.module x.copies) (dir_of-change xs c p ∙ ap (λ (b : Bool). if b then c.after else dir_of xs p) (ne_eqb c.page p d))) ∙ e
+  at_other : (p : ℕ) (f : Frame) → c.page ≢ p → copy_on f.module (dir_of after_change p).copies ≡ Some f →
+      copy_on f.module (dir_of xs p).copies ≡ Some f
+  at_other p f d e =
+      sym (ap (λ (x : Dir). copy_on f.module x.copies) (dir_of-change xs c p
+      ∙ ap (λ (b : Bool). if b then c.after else dir_of xs p) (ne_eqb c.page p d))) ∙ e
 
   -- a copy of the changed page is one of no other
-  never : (r : ℕ) (f : Frame) → c.page ≢ r → r < m.pages → copy_on f.module c.after.copies ≡ Some f → copy_on f.module (dir_of xs r).copies ≡ Some f → ⊥
+  never : (r : ℕ) (f : Frame) → c.page ≢ r → r < m.pages → copy_on f.module c.after.copies ≡ Some f → copy_on f.module (dir_of xs r).copies
+      ≡ Some f → ⊥
   never r f d u e i = by (h.facts.from f.module f e)
     where
       by : (copy_on f.module (dir_of xs c.page).copies ≡ Some f) ⊎ Took c f → ⊥
       by (inl before) = d (k.apart c.page r f h.page u before i)
       by (inr took) = free f took r u i
 
-  apart_at : (p r : ℕ) (f : Frame) → p < m.pages → r < m.pages → copy_on f.module (dir_of after_change p).copies ≡ Some f → copy_on f.module (dir_of after_change r).copies ≡ Some f → (c.page ≡ p) ⊎ (c.page ≢ p) → (c.page ≡ r) ⊎ (c.page ≢ r) → p ≡ r
+  apart_at : (p r : ℕ) (f : Frame) → p < m.pages → r < m.pages → copy_on f.module (dir_of after_change p).copies ≡ Some f →
+      copy_on f.module (dir_of after_change r).copies ≡ Some f → (c.page ≡ p) ⊎ (c.page ≢ p) → (c.page ≡ r) ⊎ (c.page ≢ r) → p ≡ r
   apart_at p r f l u e i (inl same) (inl other) = sym same ∙ other
   apart_at p r f l u e i (inl same) (inr d) =
       absurd (never r f d u (at_own f (ap (λ (x : ℕ). copy_on f.module (dir_of after_change x).copies) same ∙ e)) (at_other r f d i))
@@ -190,7 +211,8 @@ module _ (m : Machine) (xs : List Item) (c : Change) (current : IsCurrent m xs) 
       absurd (never p f d l (at_own f (ap (λ (x : ℕ). copy_on f.module (dir_of after_change x).copies) same ∙ i)) (at_other p f d e))
   apart_at p r f l u e i (inr d) (inr n) = k.apart p r f l u (at_other p f d e) (at_other r f n i)
 
-  words_at : (p w : ℕ) (f : Frame) → p < m.pages → copy_on f.module (dir_of after_change p).copies ≡ Some f → (c.page ≡ p) ⊎ (c.page ≢ p) → frame_value m after_change w f ≡ flat_value m after_change p w
+  words_at : (p w : ℕ) (f : Frame) → p < m.pages → copy_on f.module (dir_of after_change p).copies ≡ Some f → (c.page ≡ p) ⊎ (c.page ≢ p) →
+      frame_value m after_change w f ≡ flat_value m after_change p w
   words_at p w f l e (inl same) = subst (λ (x : ℕ). frame_value m after_change w f ≡ flat_value m after_change x w) same own
     where
       own : frame_value m after_change w f ≡ flat_value m after_change c.page w
@@ -214,22 +236,26 @@ module _ (m : Machine) (xs : List Item) (c : Change) (current : IsCurrent m xs) 
 
 -- ---- the items of a good history that takes free frames
 
-framed-item : (m : Machine) (answer : Answer) (xs : List Item) (i : Item) → bad_rule m answer xs i ≡ None → IsFreeTake m xs i → IsCurrent m xs → IsFramed m xs → IsFramed m (xs ++ i ∷ [])
+framed-item : (m : Machine) (answer : Answer) (xs : List Item) (i : Item) → bad_rule m answer xs i ≡ None → IsFreeTake m xs i →
+    IsCurrent m xs → IsFramed m xs → IsFramed m (xs ++ i ∷ [])
 framed-item m answer xs (item.Access a) h free current k =
     let kept = not_removed m answer xs a h
-    in framed-access m xs a (legal-parts m xs a (access_parts m answer xs a h).2).0 (at_copy m xs a current (by_grant m answer xs a h) kept.0 kept.1) k
+    in framed-access m xs a (legal-parts m xs a (access_parts m answer xs a h).2).0
+    (at_copy m xs a current (by_grant m answer xs a h) kept.0 kept.1) k
 framed-item m answer xs (item.Change c) h free current k =
-    framed-change m xs c current (good_change m answer xs c (kept_rule (is_chained m answer xs c) rule.Chain h)) free k
+    framed-change m xs c current (good_change m answer xs c (unless-none (is_chained m answer xs c) rule.Chain h)) free k
 framed-item m answer xs (item.Applied x) h free current k = framed-applied m xs x k
 framed-item m answer xs (item.Switch s) h free current k = framed-switch m xs s k
 
-framed-items : (m : Machine) (answer : Answer) (xs : List Item) (n : ℕ) (is : List Item) → bad_after m answer xs n is ≡ None → TakesFree m xs is → IsCurrent m xs → IsFramed m xs → IsFramed m (xs ++ is)
+framed-items : (m : Machine) (answer : Answer) (xs : List Item) (n : ℕ) (is : List Item) → bad_after m answer xs n is ≡ None →
+    TakesFree m xs is → IsCurrent m xs → IsFramed m xs → IsFramed m (xs ++ is)
 framed-items m answer xs n [] h free current k = rw append-nil k
 framed-items m answer xs n (i ∷ is) h free current k =
-    let both = both_here n (bad_rule m answer xs i) (bad_after m answer (xs ++ i ∷ []) (n + 1) is) h
+    let both = bad_at-none n (bad_rule m answer xs i) (bad_after m answer (xs ++ i ∷ []) (n + 1) is) h
     in subst (IsFramed m) (append_assoc xs (i ∷ []) is)
     (framed-items m answer (xs ++ i ∷ []) (n + 1) is both.1 free.1 (current-item m answer xs i both.0 current)
     (framed-item m answer xs i both.0 free.0 current k))
 
-pub good_framed : (m : Machine) (answer : Answer) (items : List Item) → bad_after m answer [] 0 items ≡ None → TakesFree m [] items → IsFramed m items
+pub good_framed : (m : Machine) (answer : Answer) (items : List Item) → bad_after m answer [] 0 items ≡ None → TakesFree m [] items →
+    IsFramed m items
 good_framed m answer items h free = framed-items m answer [] 0 items h free (current-start m) (framed-start m)

@@ -1,5 +1,6 @@
 -- a coarse run takes free frames: each frame that a change takes is then a copy of no page
-use Rattle.std.specs.Prelude.{◌≡◌, ℕ, zero, suc, ◌+◌, ◌<◌, ◌≤◌, ◌==◌, ◌&&◌, if◌then◌else◌, unwrap_or, Bool, true, false, List, [], ◌∷◌, ◌++◌, Option, Some, None}
+use Rattle.std.specs.Prelude.{◌≡◌, ℕ, zero, suc, ◌+◌, ◌<◌, ◌≤◌, ◌==◌, ◌&&◌, if◌then◌else◌, unwrap_or, Bool, true, false, List, [], ◌∷◌}
+use Rattle.std.specs.Prelude.{◌++◌, Option, Some, None}
 use Rattle.std.proofs.Common.{refl, ap, sym, ◌∙◌, arith, subst}
 use Rattle.std.specs.List.{fold, list_any, range_with_len}
 use Rattle.std.specs.Option.{option_map}
@@ -20,7 +21,8 @@ use Rattle.plat_base.specs.Ends.{is_live, time_of}
 use Rattle.plat_base.specs.Coarse.{Coarse, coarse_start}
 use Rattle.plat_base.specs.Frames.{is_used, free_frame, nearest_free, got_frame, is_starved}
 use Rattle.plat_base.specs.Messages.{interrupts}
-use Rattle.plat_base.specs.Turns.{grant_of, decided, made, access_made, fault_items, fault_made, made_reached, made_by, with_made, guest_now, thaw_items, thaw, is_pass, daemon, turn}
+use Rattle.plat_base.specs.Turns.{grant_of, decided, made, access_made, fault_items, fault_made, made_reached, made_by, with_made}
+use Rattle.plat_base.specs.Turns.{guest_now, thaw_items, thaw, is_pass, daemon, turn}
 use Rattle.plat_base.specs.Schedule.{scheduled}
 use Rattle.plat_base.specs.Rules.{names_got, has_daemon}
 use Rattle.plat_base.specs.declared.frames.Frame.{Frame}
@@ -49,19 +51,14 @@ use Rattle.plat_laws.proofs.GuestLaws.{IsReach-wanted, reach_of-page}
 use Rattle.plat_coarse_laws.proofs.TurnItemLaws.{fault_change, thaw_change, thaw_decision, has_daemon-is_pass}
 use Rattle.plat_coarse_laws.proofs.RunLaws.{scheduled_holds}
 use Rattle.plat_coarse_laws.proofs.TurnLaws.{thaw_sound, with_made_sound, sound_start}
+use Rattle.plat_base.proofs.ListLemmas.{any-range, any-numbers}
 
 -- ---- a frame that is free is no copy
 
-any_range : (test : ℕ → Bool) (a k i : ℕ) → a ≤ i → i < a + k → test i ≡ true → list_any test (range_with_len a k) ≡ true
-any_range test a zero i l u h = absurd (omega arith)
-any_range test a (suc k) i l u h = grind (arith, nat_tests, any_range test (a + 1) k i)
-
-any_number : (test : ℕ → Bool) (k i : ℕ) → i < k → test i ≡ true → list_any test (numbers k) ≡ true
-any_number test k i l h = any_range test 0 k i (omega arith) (omega arith) h
-
-is_used-copy : (m : Machine) (items : List Item) (p mo : ℕ) (f : Frame) → p < m.pages → copy_on mo (dir_of items p).copies ≡ Some f → is_used m items mo f.number ≡ true
+is_used-copy : (m : Machine) (items : List Item) (p mo : ℕ) (f : Frame) → p < m.pages → copy_on mo (dir_of items p).copies ≡ Some f →
+    is_used m items mo f.number ≡ true
 is_used-copy m items p mo f l h =
-    any_number (λ p. unwrap_or (option_map (λ (g : Frame). g.number == f.number) (copy_on mo (dir_of items p).copies)) false) m.pages p l
+    any-numbers (λ p. unwrap_or (option_map (λ (g : Frame). g.number == f.number) (copy_on mo (dir_of items p).copies)) false) m.pages p l
     (rw h (eq-eqb f.number f.number refl))
 
 -- no page has it as a copy
@@ -77,11 +74,14 @@ nobodys m items mo f h p l k =
     let used = is_used-copy m items p f.module f l k
     in true≢false (sym used ∙ (ap (λ (x : ℕ). is_used m items x f.number) free.on ∙ free.free))
 
-got_nobodys : (m : Machine) (answer : Answer) (items : List Item) (q p now : ℕ) (c : Cause) (f : Frame) → got_frame m answer items q p now c ≡ Some f → IsNobodys m items f
+got_nobodys : (m : Machine) (answer : Answer) (items : List Item) (q p now : ℕ) (c : Cause) (f : Frame) → got_frame m answer items q p now c
+    ≡ Some f → IsNobodys m items f
 got_nobodys m answer items q p now c f h =
-    by (is_empty (dir_of items p).state) (asks c (dir_of items p) q && same_verdict (answer (dir_of items p) (last_of items p) now) verdict.Move) h
+    by (is_empty (dir_of items p).state)
+    (asks c (dir_of items p) q && same_verdict (answer (dir_of items p) (last_of items p) now) verdict.Move) h
   where
-    by : (empty moves : Bool) → (if empty then nearest_free m items q else if moves then free_frame m items q else None) ≡ Some f → IsNobodys m items f
+    by : (empty moves : Bool) → (if empty then nearest_free m items q else if moves then free_frame m items q else None) ≡ Some f →
+        IsNobodys m items f
     by true moves h = nobodys m items f.module f (nearest_free-some m items q f h).1
     by false true h = nobodys m items q f h
     by false false h = absurd cc
@@ -99,10 +99,14 @@ abbrev pub TakesFree : Machine → (before items : List Item) → Type 0
 TakesFree m before [] = Unit {0}
 TakesFree m before (i ∷ is) = IsFreeTake m before i × TakesFree m (before ++ i ∷ []) is
 
-takes-append : (m : Machine) (before xs ys : List Item) → TakesFree m before xs → TakesFree m (before ++ xs) ys → TakesFree m before (xs ++ ys)
+takes-append : (m : Machine) (before xs ys : List Item) → TakesFree m before xs → TakesFree m (before ++ xs) ys →
+    TakesFree m before (xs ++ ys)
 takes-append m before [] ys h k = rw append-nil at k
-takes-append m before (x ∷ xs) ys h k =
-    (h.0, takes-append m (before ++ x ∷ []) xs ys h.1 (subst (λ (b : List Item). TakesFree m b ys) (sym (append_assoc before (x ∷ []) xs)) k))
+takes-append m before (x ∷ xs) ys h k = (
+  h.0,
+  takes-append m (before ++ x ∷ []) xs ys h.1
+      (subst (λ (b : List Item). TakesFree m b ys) (sym (append_assoc before (x ∷ []) xs)) k),
+)
 
 pub takes-front : (m : Machine) (before xs ys : List Item) → TakesFree m before (xs ++ ys) → TakesFree m before xs
 takes-front m before [] ys h = tt
@@ -116,7 +120,8 @@ takes-applied m before (item.Applied x ∷ is) h = (tt, takes-applied m (before 
 takes-applied m before (item.Switch s ∷ is) h = absurd cc
 
 -- messages, and then a change that takes a frame which is free before them
-takes-posted : (m : Machine) (xs sent : List Item) (c : Change) (rest : List Item) → all_applied sent ≡ true → ((f : Frame) → Took c f → IsNobodys m xs f)
+takes-posted : (m : Machine) (xs sent : List Item) (c : Change) (rest : List Item) → all_applied sent ≡ true →
+    ((f : Frame) → Took c f → IsNobodys m xs f)
     → TakesFree m ((xs ++ sent) ++ item.Change c ∷ []) rest → TakesFree m xs (sent ++ item.Change c ∷ rest)
 takes-posted m xs sent c rest h k more =
     takes-append m xs sent (item.Change c ∷ rest) (takes-applied m xs sent h)
@@ -124,7 +129,8 @@ takes-posted m xs sent c rest h k more =
 
 -- ---- the items of a turn
 
-module _ (m : Machine) (answer : Answer) (s : Coarse) (q : ℕ) (machine : IsWithinLimits m) (h : Sound m answer s) (v : is_live s.ends q ≡ true) where
+module _ (m : Machine) (answer : Answer) (s : Coarse) (q : ℕ) (machine : IsWithinLimits m) (h : Sound m answer s)
+    (v : is_live s.ends q ≡ true) where
   node : q < m.nodes
   node = omega (arith, is_live-below s.ends q v, h.count)
 
@@ -148,9 +154,12 @@ module _ (m : Machine) (answer : Answer) (s : Coarse) (q : ℕ) (machine : IsWit
       where
         free : (f : Frame) → Took (fault_change s.history q now entry reach chosen) f → IsNobodys m s.history f
         free f took =
-            let facts = fault_facts m answer s.history q reach.page now (cause_of kind) (h.settled.page reach.page page).dir node enough (cause_of-fault kind) in
-            let is : chosen.frame ≡ f = ap (λ (x : Grant). x.frame) (some_same (grant_of entry (cause_of kind) chosen) took.grant took.is) ∙ took.frame in
-            let named : (if names_got chosen.action then Some chosen.frame else None) ≡ Some f = ap (λ (b : Bool). if b then Some chosen.frame else None) took.named ∙ ap Some is
+            let facts = fault_facts m answer s.history q reach.page now (cause_of kind) (h.settled.page reach.page page).dir node enough
+            (cause_of-fault kind) in
+            let is : chosen.frame ≡ f = ap (λ (x : Grant). x.frame) (some_same (grant_of entry (cause_of kind) chosen) took.grant took.is)
+            ∙ took.frame in
+            let named : (if names_got chosen.action then Some chosen.frame else None) ≡ Some f =
+            ap (λ (b : Bool). if b then Some chosen.frame else None) took.named ∙ ap Some is
             in got_nobodys m answer s.history q reach.page now (cause_of kind) f (sym facts.got_back ∙ named)
           where
             some_same : (x y : Grant) → Some x ≡ Some y → x ≡ y
@@ -159,7 +168,8 @@ module _ (m : Machine) (answer : Answer) (s : Coarse) (q : ℕ) (machine : IsWit
     takes-no_right : TakesFree m s.history (fault_made m answer s q now entry reach).items
     takes-no_right = by (is_starved m s.history q reach.page) refl
       where
-        by : (b : Bool) → is_starved m s.history q reach.page ≡ b → TakesFree m s.history (if b then made [] end.NoFrames else made (fault_items m s q now entry reach chosen) end.Cut).items
+        by : (b : Bool) → is_starved m s.history q reach.page ≡ b →
+            TakesFree m s.history (if b then made [] end.NoFrames else made (fault_items m s q now entry reach chosen) end.Cut).items
         by true few = tt
         by false enough = takes-fault enough
 
@@ -167,7 +177,8 @@ module _ (m : Machine) (answer : Answer) (s : Coarse) (q : ℕ) (machine : IsWit
     takes-wanted None = takes-no_right
     takes-wanted (Some t) = by (has_right kind (Some t))
       where
-        by : (b : Bool) → TakesFree m s.history (if b then made (access_by m s.history q reach t.grant.frame t.seq ∷ []) end.Cut else fault_made m answer s q now entry reach).items
+        by : (b : Bool) → TakesFree m s.history (if b then made (access_by m s.history q reach t.grant.frame t.seq ∷ []) end.Cut
+            else fault_made m answer s q now entry reach).items
         by true = (tt, tt)
         by false = takes-no_right
 
@@ -175,17 +186,22 @@ module _ (m : Machine) (answer : Answer) (s : Coarse) (q : ℕ) (machine : IsWit
   takes-made now want.Local w = tt
   takes-made now (want.Access kind sp a o) w =
       let reached = IsReach-wanted m q (guest_now m s q).state kind sp a o w
-      in subst (λ (e : Option ℕ). TakesFree m s.history (made_reached m answer s q now (reach_of m kind sp a o) e).items) (sym reached.found)
+      in subst (λ (e : Option ℕ). TakesFree m s.history (made_reached m answer s q now (reach_of m kind sp a o) e).items)
+      (sym reached.found)
       (takes-wanted now kind sp a o w (held m s.history q (entry_reached m sp a)))
-  takes-made now (want.Switch space) w =
-      (tt, takes-applied m (s.history ++ item.Switch (switch_of q space) ∷ []) (activations m s.history q space) (activations-applied m s.history q space))
+  takes-made now (want.Switch space) w = (
+    tt,
+    takes-applied m (s.history ++ item.Switch (switch_of q space) ∷ []) (activations m s.history q space)
+        (activations-applied m s.history q space),
+  )
   takes-made now (want.Print value) w = tt
   takes-made now want.Halted w = tt
   takes-made now want.Trap w = tt
 
 -- ---- the daemon's pass
 
-takes-thaw : (m : Machine) (answer : Answer) (s : Coarse) (now p : ℕ) → TakesFree m [] s.history → TakesFree m [] (thaw m answer now s p).history
+takes-thaw : (m : Machine) (answer : Answer) (s : Coarse) (now p : ℕ) → TakesFree m [] s.history →
+    TakesFree m [] (thaw m answer now s p).history
 takes-thaw m answer s now p k = by (dir_of s.history p).frozen
   where
     none : (f : Frame) → Took (thaw_change m answer s.history now p) f → ⊥
@@ -197,7 +213,8 @@ takes-thaw m answer s now p k = by (dir_of s.history p).frozen
     by : (b : Bool) → TakesFree m [] (if b then record { history = s.history ++ thaw_items m answer s now p; ends = s.ends } else s).history
     by true =
         takes-append m [] s.history (thaw_items m answer s now p) k
-        (takes-posted m s.history (interrupts m s m.nodes p (thaw_decision m answer s.history now p).removed) (thaw_change m answer s.history now p) []
+        (takes-posted m s.history (interrupts m s m.nodes p (thaw_decision m answer s.history now p).removed)
+        (thaw_change m answer s.history now p) []
         (interrupts-applied m s m.nodes p (thaw_decision m answer s.history now p).removed) (λ f took. absurd (none f took)) tt)
     by false = k
 
@@ -206,7 +223,8 @@ pub record IsFreeRun (m : Machine) (answer : Answer) (s : Coarse) : Type 0 where
   pub sound : Sound m answer s
   pub takes : TakesFree m [] s.history
 
-free-thaws : (m : Machine) (answer : Answer) (s : Coarse) (now a n : ℕ) → IsFreeRun m answer s → has_daemon m.policy ≡ true → a + n ≤ m.pages → IsFreeRun m answer (fold (thaw m answer now) s (range_with_len a n))
+free-thaws : (m : Machine) (answer : Answer) (s : Coarse) (now a n : ℕ) → IsFreeRun m answer s → has_daemon m.policy ≡ true →
+    a + n ≤ m.pages → IsFreeRun m answer (fold (thaw m answer now) s (range_with_len a n))
 free-thaws m answer s now a zero h daemon l = h
 free-thaws m answer s now a (suc n) h daemon l =
     let next : IsFreeRun m answer (thaw m answer now s a) = record {
@@ -224,7 +242,8 @@ free-daemon m answer s now h = by (is_pass m.policy now) refl
 
 -- ---- a turn, and a run
 
-free-turn : (m : Machine) (answer : Answer) (s : Coarse) (q : ℕ) → IsWithinLimits m → IsFreeRun m answer s → is_live s.ends q ≡ true → IsFreeRun m answer (turn m answer s q)
+free-turn : (m : Machine) (answer : Answer) (s : Coarse) (q : ℕ) → IsWithinLimits m → IsFreeRun m answer s → is_live s.ends q ≡ true →
+    IsFreeRun m answer (turn m answer s q)
 free-turn m answer s q machine h v =
     let now = time_of s.ends + 1 in
     let w = want_of m q (guest_now m s q).state in

@@ -1,7 +1,9 @@
 -- pages and translations between turns stay settled: at an access, at an end, at a change behind its messages, at a switch
-use Rattle.std.specs.Prelude.{◌≡◌, ◌≢◌, ◌≤◌, ◌<◌, ℕ, ◌+◌, ◌==◌, nat_lt, ◌&&◌, ◌||◌, not, if◌then◌else◌, Bool, true, false, List, [], ◌∷◌, ◌++◌, length, Option, Some, None, is_some}
+use Rattle.std.specs.Prelude.{◌≡◌, ◌≢◌, ◌≤◌, ◌<◌, ℕ, ◌+◌, ◌==◌, nat_lt, ◌&&◌, ◌||◌, not, if◌then◌else◌, Bool, true, false, List, [], ◌∷◌}
+use Rattle.std.specs.Prelude.{◌++◌, length, Option, Some, None, is_some}
 use Rattle.std.proofs.Common.{refl, ap, sym, ◌∙◌, subst, arith, ⊎_elim}
-use Rattle.std.proofs.lemmas.Bool.{true≢false, false_from_ne_true, or_right, and_parts, cases_lt, cases_eq, eq-eqb, eqb-true, ne_eqb, lt-ltb, le-ltb}
+use Rattle.std.proofs.lemmas.Bool.{true≢false, false_from_ne_true, or_right, and_parts, cases_lt, cases_eq, eq-eqb, eqb-true, ne_eqb}
+use Rattle.std.proofs.lemmas.Bool.{lt-ltb, le-ltb}
 use Rattle.std.proofs.lemmas.Bool.Decides.{nat_tests}
 use Rattle.plat_base.specs.Machine.{Machine}
 use Rattle.plat_base.specs.Pages.{page_of, space_of}
@@ -24,21 +26,26 @@ use Rattle.plat_base.specs.declared.items.Item.TheVariants as item
 use Rattle.plat_base.specs.declared.endings.Ended.{Ended}
 use Rattle.plat_coarse_laws.specs.Sound.{IsPage, IsKept, IsSettled, IsNextChange}
 use Rattle.plat_laws.proofs.ItemLaws.{dir_of-access, seq_of-access, held-access, active-access, later-access, by_other-access}
-use Rattle.plat_coarse_laws.proofs.MessageLaws.{hit, posted, IsTarget, is_target-parts, dir_of-posted_own, dir_of-posted_other, seq_of-posted_own, seq_of-posted_other, later-posted, later-posted_other, by_other-posted, by_other-posted_other, active-posted, held-posted_own, held-posted_other}
+use Rattle.plat_coarse_laws.proofs.MessageLaws.{hit, posted, IsTarget, is_target-parts, dir_of-posted_own, dir_of-posted_other}
+use Rattle.plat_coarse_laws.proofs.MessageLaws.{seq_of-posted_own, seq_of-posted_other, later-posted, later-posted_other, by_other-posted}
+use Rattle.plat_coarse_laws.proofs.MessageLaws.{by_other-posted_other, active-posted, held-posted_own, held-posted_other}
 
 -- a change by another actor is a later change
-owed_for-later : (test : Removed → Bool) (q page seq : ℕ) (i : Item) → is_owed_for test q page seq i ≡ true → is_later_change test page seq i ≡ true
+owed_for-later : (test : Removed → Bool) (q page seq : ℕ) (i : Item) → is_owed_for test q page seq i ≡ true →
+    is_later_change test page seq i ≡ true
 owed_for-later test q page seq (item.Access a) h = absurd cc
 owed_for-later test q page seq (item.Change c) h = grind (arith, nat_tests)
 owed_for-later test q page seq (item.Applied x) h = absurd cc
 owed_for-later test q page seq (item.Switch s) h = absurd cc
 
-pub by_other-later : (test : Removed → Bool) (items : List Item) (q page seq : ℕ) → by_other test items q page seq ≡ true → later test items page seq ≡ true
+pub by_other-later : (test : Removed → Bool) (items : List Item) (q page seq : ℕ) → by_other test items q page seq ≡ true →
+    later test items page seq ≡ true
 by_other-later test [] q page seq h = absurd cc
 by_other-later test (i ∷ is) q page seq h =
     grind (arith, nat_tests, owed_for-later test q page seq i, by_other-later test is q page seq)
 
-pub by_other-none : (test : Removed → Bool) (items : List Item) (q page seq : ℕ) → later test items page seq ≡ false → by_other test items q page seq ≡ false
+pub by_other-none : (test : Removed → Bool) (items : List Item) (q page seq : ℕ) → later test items page seq ≡ false →
+    by_other test items q page seq ≡ false
 by_other-none test items q page seq h =
     false_from_ne_true (by_other test items q page seq) (λ k. true≢false (sym (by_other-later test items q page seq k) ∙ h))
 
@@ -56,8 +63,10 @@ like_page m xs ys p d n t k = record {
 
 pub like_kept :
     (m : Machine) (s z : Coarse) (q e : ℕ) (t : Translation) → seq_of s.history (page_of m e) ≤ seq_of z.history (page_of m e)
-    → ((test : Removed → Bool) → test removed.Nothing ≡ false → later test z.history (page_of m e) t.seq ≡ later test s.history (page_of m e) t.seq)
-    → ((test : Removed → Bool) → test removed.Nothing ≡ false → by_other test z.history q (page_of m e) t.seq ≡ by_other test s.history q (page_of m e) t.seq)
+    → ((test : Removed → Bool) → test removed.Nothing ≡ false → later test z.history (page_of m e) t.seq
+    ≡ later test s.history (page_of m e) t.seq)
+    → ((test : Removed → Bool) → test removed.Nothing ≡ false → by_other test z.history q (page_of m e) t.seq
+    ≡ by_other test s.history q (page_of m e) t.seq)
     → (is_live z.ends q ≡ true → is_live s.ends q ≡ true) → active m z.history q ≡ active m s.history q
     → IsKept m s q e t → IsKept m z q e t
 like_kept m s z q e t n l o v a k = record {
@@ -73,7 +82,8 @@ like_kept m s z q e t n l o v a k = record {
 
 -- ---- one more access, other ends, and the start
 
-pub settled-access : (m : Machine) (s : Coarse) (a : Access) → IsSettled m s → IsSettled m (record { history = s.history ++ item.Access a ∷ []; ends = s.ends })
+pub settled-access : (m : Machine) (s : Coarse) (a : Access) → IsSettled m s →
+    IsSettled m (record { history = s.history ++ item.Access a ∷ []; ends = s.ends })
 settled-access m s a k = record {
   page = λ p h.
       like_page m s.history (s.history ++ item.Access a ∷ []) p (dir_of-access s.history a p) (seq_of-access s.history a p)
@@ -85,11 +95,13 @@ settled-access m s a k = record {
       (λ v. v) (active-access m s.history a q) (k.kept q e t h l (sym (held-access m s.history a q e) ∙ w));
 }
 
-pub settled-ends : (m : Machine) (s : Coarse) (ends : List Ended) → ((q : ℕ) → is_live ends q ≡ true → is_live s.ends q ≡ true) → IsSettled m s → IsSettled m (record { history = s.history; ends = ends })
+pub settled-ends : (m : Machine) (s : Coarse) (ends : List Ended) → ((q : ℕ) → is_live ends q ≡ true → is_live s.ends q ≡ true) →
+    IsSettled m s → IsSettled m (record { history = s.history; ends = ends })
 settled-ends m s ends v k = record {
   page = k.page;
   kept = λ q e t h l w.
-      like_kept m s (record { history = s.history; ends = ends }) q e t (omega arith) (λ test _. refl) (λ test _. refl) (v q) refl (k.kept q e t h l w);
+      like_kept m s (record { history = s.history; ends = ends }) q e t (omega arith) (λ test _. refl) (λ test _. refl) (v q) refl
+      (k.kept q e t h l w);
 }
 
 pub settled-start : (m : Machine) (ends : List Ended) → IsSettled m (record { history = []; ends = ends })
@@ -106,7 +118,10 @@ settled-start m ends = record {
 -- ---- what holds of a translation that a live processor holds in the space that it runs in
 
 -- nothing of it was removed since
-pub settled-hit : (m : Machine) (s : Coarse) (q e : ℕ) (t : Translation) → IsSettled m s → is_live s.ends q ≡ true → q < m.nodes → e < length m.entries → active m s.history q ≡ space_of m e → held m s.history q e ≡ Some t → (later removes_all s.history (page_of m e) t.seq ≡ false) × (t.grant.right ≡ right.Write → later removes_writes s.history (page_of m e) t.seq ≡ false)
+pub settled-hit : (m : Machine) (s : Coarse) (q e : ℕ) (t : Translation) → IsSettled m s → is_live s.ends q ≡ true → q < m.nodes →
+    e < length m.entries → active m s.history q ≡ space_of m e → held m s.history q e ≡ Some t →
+    (later removes_all s.history (page_of m e) t.seq ≡ false)
+    × (t.grant.right ≡ right.Write → later removes_writes s.history (page_of m e) t.seq ≡ false)
 settled-hit m s q e t k v h l a w = (no_all, no_writes)
   where
     kept : IsKept m s q e t
@@ -128,31 +143,38 @@ settled-hit m s q e t k v h l a w = (no_all, no_writes)
 -- ---- the fresh grant of a change
 
 module _ (m : Machine) (s : Coarse) (c : Change) where
-  fresh : (test : Removed → Bool) → ((g : ℕ) → seq_of s.history c.page ≤ g + 1 → later test s.history c.page g ≡ false) → c.seq ≡ seq_of s.history c.page → later test (posted m s c) c.page c.seq ≡ false
+  fresh : (test : Removed → Bool) → ((g : ℕ) → seq_of s.history c.page ≤ g + 1 → later test s.history c.page g ≡ false) →
+      c.seq ≡ seq_of s.history c.page → later test (posted m s c) c.page c.seq ≡ false
   fresh test none n =
       let before : later test s.history c.page c.seq ≡ false = none c.seq (omega arith)
       in later-posted m s c test c.page c.seq ∙ rw (before, le-ltb c.seq c.seq (omega arith), eq-eqb c.page c.page refl) refl
 
-  granted-held : (g : Grant) → c.granted ≡ Some g → held m (posted m s c) c.actor g.entry ≡ Some (record { grant = g; seq = c.seq; restricted = false })
+  granted-held : (g : Grant) → c.granted ≡ Some g → held m (posted m s c) c.actor g.entry
+      ≡ Some (record { grant = g; seq = c.seq; restricted = false })
   granted-held g h = held-posted_own m s c g.entry ∙ rw (h, eq-eqb g.entry g.entry refl) refl
 
   -- nothing is later than a fresh grant
-  pub settled-granted : IsSettled m s → IsNextChange m s.history c → (g : Grant) → c.granted ≡ Some g → (held m (posted m s c) c.actor g.entry ≡ Some (record { grant = g; seq = c.seq; restricted = false })) × (later removes_all (posted m s c) c.page c.seq ≡ false) × (later removes_writes (posted m s c) c.page c.seq ≡ false)
+  pub settled-granted : IsSettled m s → IsNextChange m s.history c → (g : Grant) → c.granted ≡ Some g →
+      (held m (posted m s c) c.actor g.entry ≡ Some (record { grant = g; seq = c.seq; restricted = false }))
+      × (later removes_all (posted m s c) c.page c.seq ≡ false) × (later removes_writes (posted m s c) c.page c.seq ≡ false)
   settled-granted k n g h =
       let page = k.page c.page n.page
       in (granted-held g h, fresh removes_all page.numbers_all n.seq, fresh removes_writes page.numbers_writes n.seq)
 
 -- ---- each message before a change finds its translation
 
-module _ (m : Machine) (s : Coarse) (k : IsSettled m s) (e r : ℕ) (t : Translation) (w : held m s.history r e ≡ Some t) (h : r < m.nodes) (l : e < length m.entries) where
+module _ (m : Machine) (s : Coarse) (k : IsSettled m s) (e r : ℕ) (t : Translation) (w : held m s.history r e ≡ Some t) (h : r < m.nodes)
+    (l : e < length m.entries) where
   -- a marked translation that owes no invalidate is of a page that is present+
-  marked_plus : page_of m e < m.pages → t.restricted ≡ true → by_other removes_all s.history r (page_of m e) t.seq ≡ false → (dir_of s.history (page_of m e)).state ≡ state.PresentPlus
+  marked_plus : page_of m e < m.pages → t.restricted ≡ true → by_other removes_all s.history r (page_of m e) t.seq ≡ false →
+      (dir_of s.history (page_of m e)).state ≡ state.PresentPlus
   marked_plus p marked o =
       let kept = k.kept r e t h l w
       in (k.page (page_of m e) p).writes t.seq (by_other-later removes_writes s.history r (page_of m e) t.seq (kept.marked_cause marked))
       (false_from_ne_true (later removes_all s.history (page_of m e) t.seq) (λ x. true≢false (sym (kept.own_all x) ∙ o)))
 
-  restrict-unmarked : page_of m e < m.pages → is_live s.ends r ≡ true → active m s.history r ≡ space_of m e → (dir_of s.history (page_of m e)).state ≡ state.Modified → not t.restricted ≡ true
+  restrict-unmarked : page_of m e < m.pages → is_live s.ends r ≡ true → active m s.history r ≡ space_of m e →
+      (dir_of s.history (page_of m e)).state ≡ state.Modified → not t.restricted ≡ true
   restrict-unmarked p v a modified =
       let kept = k.kept r e t h l w
       in let unmarked : t.restricted ≡ false =
@@ -177,7 +199,8 @@ hit-parts m s c r e h =
     }
 
 -- a restrict finds a translation with no mark: a marked one that owes nothing is of a page that is present+, not modified
-pub settled-may_apply : (m : Machine) (s : Coarse) (c : Change) → IsSettled m s → IsNextChange m s.history c → (r e : ℕ) → r < m.nodes → e < length m.entries → hit m s c.actor c.page c.removed r e ≡ true → may_apply (message_of c.removed) (held m s.history r e) ≡ true
+pub settled-may_apply : (m : Machine) (s : Coarse) (c : Change) → IsSettled m s → IsNextChange m s.history c → (r e : ℕ) → r < m.nodes →
+    e < length m.entries → hit m s c.actor c.page c.removed r e ≡ true → may_apply (message_of c.removed) (held m s.history r e) ≡ true
 settled-may_apply m s c k n r e h l x = by c.removed refl (held m s.history r e) refl
   where
     is_hit : IsHit m s c r e
@@ -215,7 +238,8 @@ module _ (m : Machine) (s : Coarse) (c : Change) (test : Removed → Bool) (p g 
   later_made : test c.removed ≡ true → g < c.seq → later test (posted m s c) p g ≡ true
   later_made h l = later_now ∙ rw (lt-ltb g c.seq l, h) (or_right (later test s.history p g) true refl)
 
-  other_now : (q : ℕ) → by_other test (posted m s c) q p g ≡ (by_other test s.history q p g || (nat_lt g c.seq && test c.removed && not (c.actor == q)))
+  other_now : (q : ℕ) → by_other test (posted m s c) q p g
+      ≡ (by_other test s.history q p g || (nat_lt g c.seq && test c.removed && not (c.actor == q)))
   other_now q = by_other-posted m s c test q p g ∙ rw (eq-eqb c.page p (sym o)) refl
 
   other_same : (q : ℕ) → test c.removed ≡ false → by_other test (posted m s c) q p g ≡ by_other test s.history q p g
@@ -254,14 +278,16 @@ module _ (m : Machine) (s : Coarse) (c : Change) (k : IsSettled m s) (n : IsNext
   own_page : IsPage m s.history c.page
   own_page = k.page c.page n.page
 
-  numbers_now : (test : Removed → Bool) → ((g : ℕ) → seq_of s.history c.page ≤ g + 1 → later test s.history c.page g ≡ false) → (g : ℕ) → seq_of s.history c.page + 1 ≤ g + 1 → later test (posted m s c) c.page g ≡ false
+  numbers_now : (test : Removed → Bool) → ((g : ℕ) → seq_of s.history c.page ≤ g + 1 → later test s.history c.page g ≡ false) → (g : ℕ) →
+      seq_of s.history c.page + 1 ≤ g + 1 → later test (posted m s c) c.page g ≡ false
   numbers_now test none g h =
       let was : later test s.history c.page g ≡ false = none g (omega arith)
       in let same : c.seq ≡ seq_of s.history c.page = n.seq
       in later_now m s c test c.page g refl ∙ rw (was, le-ltb g c.seq (omega arith)) refl
 
   -- writes were removed and not all since: the page is present+ after the change
-  plus_now : (g : ℕ) → later removes_writes (posted m s c) c.page g ≡ true → later removes_all (posted m s c) c.page g ≡ false → c.after.state ≡ state.PresentPlus
+  plus_now : (g : ℕ) → later removes_writes (posted m s c) c.page g ≡ true → later removes_all (posted m s c) c.page g ≡ false →
+      c.after.state ≡ state.PresentPlus
   plus_now g h l = by c.removed refl
     where
       not_below : c.removed ≡ removed.All → g < c.seq → ⊥
@@ -300,7 +326,8 @@ not_hit : (m : Machine) (s : Coarse) (c : Change) (r e : ℕ) → page_of m e �
 not_hit m s c r e d = false_from_ne_true (hit m s c.actor c.page c.removed r e) (λ x. d (hit-parts m s c r e x).of_page)
 
 module _ (m : Machine) (s : Coarse) (c : Change) (k : IsSettled m s) (n : IsNextChange m s.history c) where
-  not_granted : (e : ℕ) (granted : Option Grant) (t : Option Translation) → c.granted ≡ granted → page_of m e ≢ c.page → granted_to e c.seq granted t ≡ t
+  not_granted : (e : ℕ) (granted : Option Grant) (t : Option Translation) → c.granted ≡ granted → page_of m e ≢ c.page →
+      granted_to e c.seq granted t ≡ t
   not_granted e None t x d = refl
   not_granted e (Some g) t x d =
       rw (ne_eqb g.entry e (λ same. d (ap (page_of m) (sym same) ∙ n.granted_page g x))) refl
@@ -317,7 +344,8 @@ module _ (m : Machine) (s : Coarse) (c : Change) (k : IsSettled m s) (n : IsNext
       other : q ≢ c.actor → held m (posted m s c) q e ≡ held m s.history q e
       other x = held-posted_other m s c q e x l ∙ rw (not_hit m s c q e d) refl
 
-  posted-kept_other : (q e : ℕ) (t : Translation) → q < m.nodes → e < length m.entries → page_of m e ≢ c.page → held m (posted m s c) q e ≡ Some t → IsKept m (with_change m s c) q e t
+  posted-kept_other : (q e : ℕ) (t : Translation) → q < m.nodes → e < length m.entries → page_of m e ≢ c.page →
+      held m (posted m s c) q e ≡ Some t → IsKept m (with_change m s c) q e t
   posted-kept_other q e t h l d w =
       let apart : c.page ≢ page_of m e = λ x. d (sym x)
       in like_kept m s (with_change m s c) q e t (omega (arith, seq_of-posted_other m s c (page_of m e) apart))
@@ -327,7 +355,8 @@ module _ (m : Machine) (s : Coarse) (c : Change) (k : IsSettled m s) (n : IsNext
 
   -- of the change's own page: the fresh grant
 
-  fresh_kept : (g : Grant) → c.granted ≡ Some g → IsKept m (with_change m s c) c.actor g.entry (record { grant = g; seq = c.seq; restricted = false })
+  fresh_kept : (g : Grant) → c.granted ≡ Some g →
+      IsKept m (with_change m s c) c.actor g.entry (record { grant = g; seq = c.seq; restricted = false })
   fresh_kept g x =
       let o : page_of m g.entry ≡ c.page = n.granted_page g x
       in let r = settled-granted m s c k n g x
@@ -344,7 +373,8 @@ module _ (m : Machine) (s : Coarse) (c : Change) (k : IsSettled m s) (n : IsNext
 
 -- a translation t of the change's page that was held before
 
-module _ (m : Machine) (s : Coarse) (c : Change) (n : IsNextChange m s.history c) (q e : ℕ) (t : Translation) (o : page_of m e ≡ c.page) (k : IsKept m s q e t) where
+module _ (m : Machine) (s : Coarse) (c : Change) (n : IsNextChange m s.history c) (q e : ℕ) (t : Translation) (o : page_of m e ≡ c.page)
+    (k : IsKept m s q e t) where
   no_fewer : seq_of s.history (page_of m e) ≤ seq_of (posted m s c) (page_of m e)
   no_fewer = rw (o, seq_of-posted_own m s c) (omega arith)
 
@@ -354,12 +384,14 @@ module _ (m : Machine) (s : Coarse) (c : Change) (n : IsNextChange m s.history c
   older : t.seq < c.seq
   older = rw n.seq (rw o at k.below)
 
-  own_all_same : removes_all c.removed ≡ false → later removes_all (posted m s c) (page_of m e) t.seq ≡ true → by_other removes_all (posted m s c) q (page_of m e) t.seq ≡ true
+  own_all_same : removes_all c.removed ≡ false → later removes_all (posted m s c) (page_of m e) t.seq ≡ true →
+      by_other removes_all (posted m s c) q (page_of m e) t.seq ≡ true
   own_all_same x h =
       other_same m s c removes_all (page_of m e) t.seq o q x
       ∙ k.own_all (sym (later_same m s c removes_all (page_of m e) t.seq o x) ∙ h)
 
-  answered_all_same : removes_all c.removed ≡ false → is_live s.ends q ≡ true → active m (posted m s c) q ≡ space_of m e → by_other removes_all (posted m s c) q (page_of m e) t.seq ≡ false
+  answered_all_same : removes_all c.removed ≡ false → is_live s.ends q ≡ true → active m (posted m s c) q ≡ space_of m e →
+      by_other removes_all (posted m s c) q (page_of m e) t.seq ≡ false
   answered_all_same x v a =
       other_same m s c removes_all (page_of m e) t.seq o q x ∙ k.answered_all v (sym (active-posted m s c q) ∙ a)
 
@@ -375,7 +407,8 @@ module _ (m : Machine) (s : Coarse) (c : Change) (n : IsNextChange m s.history c
       (λ v. v) (active-posted m s c q) k
 
   -- writes were removed by its processor itself
-  lowered_kept : c.removed ≡ removed.Writes → c.actor ≡ q → IsKept m (with_change m s c) q e (record { grant = to_read t.grant; seq = t.seq; restricted = t.restricted })
+  lowered_kept : c.removed ≡ removed.Writes → c.actor ≡ q →
+      IsKept m (with_change m s c) q e (record { grant = to_read t.grant; seq = t.seq; restricted = t.restricted })
   lowered_kept x a = record {
     frame = k.frame;
     below = still_below;
@@ -389,7 +422,8 @@ module _ (m : Machine) (s : Coarse) (c : Change) (n : IsNextChange m s.history c
   }
 
   -- writes were removed, and a message told so
-  told_kept : c.removed ≡ removed.Writes → c.actor ≢ q → IsKept m (with_change m s c) q e (record { grant = to_read t.grant; seq = t.seq; restricted = true })
+  told_kept : c.removed ≡ removed.Writes → c.actor ≢ q →
+      IsKept m (with_change m s c) q e (record { grant = to_read t.grant; seq = t.seq; restricted = true })
   told_kept x d = record {
     frame = k.frame;
     below = still_below;
@@ -436,10 +470,12 @@ module _ (m : Machine) (s : Coarse) (c : Change) (n : IsNextChange m s.history c
 
 module _ (m : Machine) (s : Coarse) (c : Change) (k : IsSettled m s) (n : IsNextChange m s.history c) where
   -- of the actor: what its own change left of a translation
-  left_kept : (e : ℕ) (t : Translation) → c.actor < m.nodes → e < length m.entries → page_of m e ≡ c.page → kept_of c.removed (held m s.history c.actor e) ≡ Some t → IsKept m (with_change m s c) c.actor e t
+  left_kept : (e : ℕ) (t : Translation) → c.actor < m.nodes → e < length m.entries → page_of m e ≡ c.page →
+      kept_of c.removed (held m s.history c.actor e) ≡ Some t → IsKept m (with_change m s c) c.actor e t
   left_kept e t h l o w = by c.removed refl (held m s.history c.actor e) refl w
     where
-      by : (rem : Removed) → c.removed ≡ rem → (u : Option Translation) → held m s.history c.actor e ≡ u → kept_of rem u ≡ Some t → IsKept m (with_change m s c) c.actor e t
+      by : (rem : Removed) → c.removed ≡ rem → (u : Option Translation) → held m s.history c.actor e ≡ u → kept_of rem u ≡ Some t →
+          IsKept m (with_change m s c) c.actor e t
       by removed.Nothing x u i w = nothing_kept m s c n c.actor e t o (k.kept c.actor e t h l (i ∙ w)) x
       by removed.Writes x None i w = absurd cc
       by removed.Writes x (Some u) i w =
@@ -449,13 +485,17 @@ module _ (m : Machine) (s : Coarse) (c : Change) (k : IsSettled m s) (n : IsNext
           (lowered_kept m s c n c.actor e u o (k.kept c.actor e u h l i) x refl)
       by removed.All x u i w = absurd cc
 
-  own_held : (e : ℕ) → page_of m e ≡ c.page → held m (posted m s c) c.actor e ≡ granted_to e c.seq c.granted (kept_of c.removed (held m s.history c.actor e))
+  own_held : (e : ℕ) → page_of m e ≡ c.page →
+      held m (posted m s c) c.actor e ≡ granted_to e c.seq c.granted (kept_of c.removed (held m s.history c.actor e))
   own_held e o = held-posted_own m s c e ∙ rw (eq-eqb (page_of m e) c.page o) refl
 
-  own_kept : (e : ℕ) (t : Translation) → c.actor < m.nodes → e < length m.entries → page_of m e ≡ c.page → held m (posted m s c) c.actor e ≡ Some t → IsKept m (with_change m s c) c.actor e t
+  own_kept : (e : ℕ) (t : Translation) → c.actor < m.nodes → e < length m.entries → page_of m e ≡ c.page →
+      held m (posted m s c) c.actor e ≡ Some t → IsKept m (with_change m s c) c.actor e t
   own_kept e t h l o w = by c.granted refl (sym (own_held e o) ∙ w)
     where
-      at : (g : Grant) → c.granted ≡ Some g → (here : Bool) → (g.entry == e) ≡ here → (if here then Some (record { grant = g; seq = c.seq; restricted = false }) else kept_of c.removed (held m s.history c.actor e)) ≡ Some t → IsKept m (with_change m s c) c.actor e t
+      at : (g : Grant) → c.granted ≡ Some g → (here : Bool) → (g.entry == e) ≡ here →
+          (if here then Some (record { grant = g; seq = c.seq; restricted = false }) else kept_of c.removed (held m s.history c.actor e))
+          ≡ Some t → IsKept m (with_change m s c) c.actor e t
       at g x true i w =
           let now : Translation = record { grant = g; seq = c.seq; restricted = false }
           in let same : now ≡ t = cc
@@ -463,16 +503,20 @@ module _ (m : Machine) (s : Coarse) (c : Change) (k : IsSettled m s) (n : IsNext
           (subst (λ (i : ℕ). IsKept m (with_change m s c) c.actor i now) (eqb-true g.entry e i) (fresh_kept m s c k n g x))
       at g x false i w = left_kept e t h l o w
 
-      by : (granted : Option Grant) → c.granted ≡ granted → granted_to e c.seq granted (kept_of c.removed (held m s.history c.actor e)) ≡ Some t → IsKept m (with_change m s c) c.actor e t
+      by : (granted : Option Grant) → c.granted ≡ granted → granted_to e c.seq granted (kept_of c.removed (held m s.history c.actor e))
+          ≡ Some t → IsKept m (with_change m s c) c.actor e t
       by None x w = left_kept e t h l o w
       by (Some g) x w = at g x (g.entry == e) refl w
 
   -- of another processor: one that a message told, and one that none did
 
-  hit_kept : (q e : ℕ) (t : Translation) → c.actor ≢ q → q < m.nodes → e < length m.entries → page_of m e ≡ c.page → hit m s c.actor c.page c.removed q e ≡ true → told (message_of c.removed) (held m s.history q e) ≡ Some t → IsKept m (with_change m s c) q e t
+  hit_kept : (q e : ℕ) (t : Translation) → c.actor ≢ q → q < m.nodes → e < length m.entries → page_of m e ≡ c.page →
+      hit m s c.actor c.page c.removed q e ≡ true → told (message_of c.removed) (held m s.history q e) ≡ Some t →
+      IsKept m (with_change m s c) q e t
   hit_kept q e t d h l o is_hit w = by c.removed refl (held m s.history q e) refl w
     where
-      by : (rem : Removed) → c.removed ≡ rem → (u : Option Translation) → held m s.history q e ≡ u → told (message_of rem) u ≡ Some t → IsKept m (with_change m s c) q e t
+      by : (rem : Removed) → c.removed ≡ rem → (u : Option Translation) → held m s.history q e ≡ u → told (message_of rem) u ≡ Some t →
+          IsKept m (with_change m s c) q e t
       by removed.Nothing x u i w = absurd (true≢false (sym (hit-parts m s c q e is_hit).some ∙ ap removes_some x))
       by removed.Writes x None i w = absurd cc
       by removed.Writes x (Some u) i w =
@@ -481,13 +525,24 @@ module _ (m : Machine) (s : Coarse) (c : Change) (k : IsSettled m s) (n : IsNext
           in subst (λ (v : Translation). IsKept m (with_change m s c) q e v) same (told_kept m s c n q e u o (k.kept q e u h l i) x d)
       by removed.All x u i w = absurd cc
 
-  no_target : (q e : ℕ) (t : Translation) → c.actor ≢ q → q < m.nodes → page_of m e ≡ c.page → hit m s c.actor c.page c.removed q e ≡ false → held m s.history q e ≡ Some t → removes_some c.removed ≡ true → is_live s.ends q ≡ true → active m s.history q ≡ space_of m e → ⊥
+  no_target : (q e : ℕ) (t : Translation) → c.actor ≢ q → q < m.nodes → page_of m e ≡ c.page → hit m s c.actor c.page c.removed q e
+      ≡ false → held m s.history q e ≡ Some t → removes_some c.removed ≡ true → is_live s.ends q ≡ true →
+      active m s.history q ≡ space_of m e → ⊥
   no_target q e t d h o no_hit w some v a =
       true≢false
-      (sym (rw (some, eq-eqb (page_of m e) c.page o, lt-ltb q m.nodes h, ne_eqb q c.actor (λ same. d (sym same)), v, w, eq-eqb (active m s.history q) (space_of m e) a) refl)
+      (sym (rw (
+        some,
+        eq-eqb (page_of m e) c.page o,
+        lt-ltb q m.nodes h,
+        ne_eqb q c.actor (λ same. d (sym same)),
+        v,
+        w,
+        eq-eqb (active m s.history q) (space_of m e) a,
+      ) refl)
       ∙ no_hit)
 
-  missed_kept : (q e : ℕ) (t : Translation) → c.actor ≢ q → q < m.nodes → e < length m.entries → page_of m e ≡ c.page → hit m s c.actor c.page c.removed q e ≡ false → held m s.history q e ≡ Some t → IsKept m (with_change m s c) q e t
+  missed_kept : (q e : ℕ) (t : Translation) → c.actor ≢ q → q < m.nodes → e < length m.entries → page_of m e ≡ c.page →
+      hit m s c.actor c.page c.removed q e ≡ false → held m s.history q e ≡ Some t → IsKept m (with_change m s c) q e t
   missed_kept q e t d h l o no_hit w = by c.removed refl
     where
       away : (rem : Removed) → c.removed ≡ rem → removes_some rem ≡ true → is_live s.ends q ≡ true → active m s.history q ≡ space_of m e → ⊥
@@ -498,25 +553,32 @@ module _ (m : Machine) (s : Coarse) (c : Change) (k : IsSettled m s) (n : IsNext
       by removed.Writes x = passed_writes m s c n q e t o (k.kept q e t h l w) d (away removed.Writes x refl) x
       by removed.All x = passed_all m s c n q e t o (k.kept q e t h l w) d (away removed.All x refl) x
 
-  other_kept : (q e : ℕ) (t : Translation) → q ≢ c.actor → q < m.nodes → e < length m.entries → page_of m e ≡ c.page → held m (posted m s c) q e ≡ Some t → IsKept m (with_change m s c) q e t
+  other_kept : (q e : ℕ) (t : Translation) → q ≢ c.actor → q < m.nodes → e < length m.entries → page_of m e ≡ c.page →
+      held m (posted m s c) q e ≡ Some t → IsKept m (with_change m s c) q e t
   other_kept q e t d h l o w =
       by (hit m s c.actor c.page c.removed q e) refl (sym (held-posted_other m s c q e d l) ∙ w)
     where
-      by : (b : Bool) → hit m s c.actor c.page c.removed q e ≡ b → (if b then told (message_of c.removed) (held m s.history q e) else held m s.history q e) ≡ Some t → IsKept m (with_change m s c) q e t
+      by : (b : Bool) → hit m s c.actor c.page c.removed q e ≡ b →
+          (if b then told (message_of c.removed) (held m s.history q e) else held m s.history q e) ≡ Some t →
+          IsKept m (with_change m s c) q e t
       by true x w = hit_kept q e t (λ same. d (sym same)) h l o x w
       by false x w = missed_kept q e t (λ same. d (sym same)) h l o x w
 
-  posted-kept : (q e : ℕ) (t : Translation) → q < m.nodes → e < length m.entries → held m (posted m s c) q e ≡ Some t → IsKept m (with_change m s c) q e t
+  posted-kept : (q e : ℕ) (t : Translation) → q < m.nodes → e < length m.entries → held m (posted m s c) q e ≡ Some t →
+      IsKept m (with_change m s c) q e t
   posted-kept q e t h l w = ⊎_elim of_page (λ d. posted-kept_other m s c k n q e t h l d w) (cases_eq (page_of m e) c.page)
     where
-      at_actor : (r : ℕ) → c.actor ≡ r → r < m.nodes → page_of m e ≡ c.page → held m (posted m s c) r e ≡ Some t → IsKept m (with_change m s c) r e t
+      at_actor : (r : ℕ) → c.actor ≡ r → r < m.nodes → page_of m e ≡ c.page → held m (posted m s c) r e ≡ Some t →
+          IsKept m (with_change m s c) r e t
       at_actor r same =
-          subst (λ (r : ℕ). r < m.nodes → page_of m e ≡ c.page → held m (posted m s c) r e ≡ Some t → IsKept m (with_change m s c) r e t) same
+          subst (λ (r : ℕ). r < m.nodes → page_of m e ≡ c.page → held m (posted m s c) r e ≡ Some t → IsKept m (with_change m s c) r e t)
+          same
           (λ h o w. own_kept e t h l o w)
 
       of_page : page_of m e ≡ c.page → IsKept m (with_change m s c) q e t
       of_page o = ⊎_elim (λ same. at_actor q (sym same) h o w) (λ d. other_kept q e t d h l o w) (cases_eq q c.actor)
 
 -- a change and the messages before it, of a fault or of a thaw
-pub settled-posted : (m : Machine) (s : Coarse) (c : Change) → IsSettled m s → IsNextChange m s.history c → IsSettled m (record { history = posted m s c; ends = s.ends })
+pub settled-posted : (m : Machine) (s : Coarse) (c : Change) → IsSettled m s → IsNextChange m s.history c →
+    IsSettled m (record { history = posted m s c; ends = s.ends })
 settled-posted m s c k n = record { page = posted-page m s c k n; kept = posted-kept m s c k n }

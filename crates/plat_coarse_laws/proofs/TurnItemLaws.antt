@@ -1,5 +1,6 @@
 -- the items of a turn break no rule: an access with enough right, a fault, a thaw and a switch; and what they are to each guest
-use Rattle.std.specs.Prelude.{◌≡◌, ◌≢◌, ◌≤◌, ◌<◌, ℕ, ◌+◌, ◌==◌, nat_lt, ◌&&◌, not, if◌then◌else◌, Bool, true, false, List, [], ◌∷◌, ◌++◌, length, Option, Some, None}
+use Rattle.std.specs.Prelude.{◌≡◌, ◌≢◌, ◌≤◌, ◌<◌, ℕ, ◌+◌, ◌==◌, nat_lt, ◌&&◌, not, if◌then◌else◌, Bool, true, false, List, [], ◌∷◌, ◌++◌}
+use Rattle.std.specs.Prelude.{length, Option, Some, None}
 use Rattle.std.proofs.Common.{refl, ap, sym, subst, ◌∙◌, arith}
 use Rattle.std.specs.List.{list_any, cons_option}
 use Rattle.std.proofs.lemmas.Bool.{eq-eqb, ne_eqb, lt-ltb, le-ltb, and_from, cond-true, cond-false}
@@ -22,7 +23,9 @@ use Rattle.plat_base.specs.Coarse.{Coarse}
 use Rattle.plat_base.specs.Frames.{is_starved}
 use Rattle.plat_base.specs.Messages.{message_of, switch_items}
 use Rattle.plat_base.specs.Turns.{decided, change_by, grant_of, fault_items, thaw_items, is_pass}
-use Rattle.plat_base.specs.Rules.{is_access_next, is_switch_next, next_operation, is_ordered_access, entry_of_access, is_grant_of, is_granted, is_legal, is_fault_of, is_fault_decision, is_fault_change, is_decided, has_daemon, is_thaw_change, is_chained, may_apply, unless, first_rule, bad_rule, bad_after}
+use Rattle.plat_base.specs.Rules.{is_access_next, is_switch_next, next_operation, is_ordered_access, entry_of_access, is_grant_of}
+use Rattle.plat_base.specs.Rules.{is_granted, is_legal, is_fault_of, is_fault_decision, is_fault_change, is_decided, has_daemon}
+use Rattle.plat_base.specs.Rules.{is_thaw_change, is_chained, may_apply, unless, first_rule, bad_rule, bad_after}
 use Rattle.plat_base.proofs.CopiesLemmas.{same_frame-itself}
 use Rattle.plat_base.specs.declared.frames.Frame.{Frame}
 use Rattle.plat_base.specs.declared.items.Kind.{Kind}
@@ -44,11 +47,18 @@ use Rattle.plat_base.specs.declared.policies.PolicyKind.TheVariants as policy
 use Rattle.plat_base.specs.declared.statuses.Rule.TheVariants as rule
 use Rattle.plat_laws.specs.Guests.{IsWithinLimits, IsGuest}
 use Rattle.plat_coarse_laws.specs.Sound.{IsNextChange}
-use Rattle.plat_laws.proofs.ItemLaws.{same_number, all_applied, is_by, dir_of-applied, seq_of-applied, last_of-applied, values_of-applied, operations_of-applied, held-not_mine, active-access}
-use Rattle.plat_laws.proofs.GuestLaws.{next_operation-access, next_operation-switch, values_of-append, operations_of-append, IsGuest-access, IsGuest-switch, IsReach, IsReach-wanted, reach_of-page, reach_of-word}
+use Rattle.plat_laws.proofs.ItemLaws.{same_number, all_applied, is_by, dir_of-applied, seq_of-applied, last_of-applied, values_of-applied}
+use Rattle.plat_laws.proofs.ItemLaws.{operations_of-applied, held-not_mine, active-access, operations_of-append}
+use Rattle.plat_laws.proofs.GuestLaws.{next_operation-access, next_operation-switch, values_of-append, IsGuest-access}
+use Rattle.plat_laws.proofs.GuestLaws.{IsGuest-switch, IsReach, IsReach-wanted, reach_of-page, reach_of-word}
 use Rattle.plat_laws.proofs.EndLaws.{bad_after-more, bad_after-one, values_of-not_by, operations_of-not_by}
-use Rattle.plat_coarse_laws.proofs.MessageLaws.{hit, interrupts-none_by_initiator, interrupts-none_by_ended, bad_after-interrupts, sent, posted, sent-applied, active-posted, flat_value-posted, flat_writes-posted, values_of-posted, operations_of-posted, posted-none_by, fault_items-parts, switch_of, activations, activations-applied, bad_after-switch_items, switch_items-none_by, active-switch_items}
-use Rattle.plat_laws.proofs.TableLaws.{PageFacts, fault_page, thaw_page, thaw_facts, may_thaw, is_decided-change_by, all_three, same_cause-itself, same_dir-itself}
+use Rattle.plat_coarse_laws.proofs.MessageLaws.{hit, interrupts-none_by_initiator, interrupts-none_by_ended, bad_after-interrupts, sent}
+use Rattle.plat_coarse_laws.proofs.MessageLaws.{posted, sent-applied, active-posted, flat_value-posted, flat_writes-posted}
+use Rattle.plat_coarse_laws.proofs.MessageLaws.{values_of-posted, operations_of-posted, posted-none_by, fault_items-parts, switch_of}
+use Rattle.plat_coarse_laws.proofs.MessageLaws.{activations, activations-applied, bad_after-switch_items, switch_items-none_by}
+use Rattle.plat_coarse_laws.proofs.MessageLaws.{active-switch_items}
+use Rattle.plat_laws.proofs.TableLaws.{PageFacts, fault_page, thaw_page, thaw_facts, may_thaw, is_decided-change_by, all_three}
+use Rattle.plat_laws.proofs.TableLaws.{same_cause-itself, same_dir-itself}
 use Rattle.plat_laws.proofs.TableLaws.{cause_of-fault}
 use Rattle.plat_coarse_laws.proofs.FrameLaws.{fault_facts, fault_decided}
 

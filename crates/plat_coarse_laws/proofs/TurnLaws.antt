@@ -1,5 +1,6 @@
 -- one turn keeps the invariant: whatever the guest wants, and through the daemon's pass
-use Rattle.std.specs.Prelude.{◌≡◌, ◌≢◌, ◌≤◌, ◌<◌, ℕ, zero, suc, ◌+◌, ◌*◌, ◌==◌, nat_lt, nat_le, ◌&&◌, if◌then◌else◌, Bool, true, false, List, [], ◌∷◌, ◌++◌, length, Option, Some, None}
+use Rattle.std.specs.Prelude.{◌≡◌, ◌≢◌, ◌≤◌, ◌<◌, ℕ, zero, suc, ◌+◌, ◌*◌, ◌==◌, nat_lt, nat_le, ◌&&◌, if◌then◌else◌, Bool, true, false}
+use Rattle.std.specs.Prelude.{List, [], ◌∷◌, ◌++◌, length, Option, Some, None}
 use Rattle.std.proofs.Common.{refl, ap, sym, subst, ◌∙◌, arith, ⊎_elim}
 use Rattle.std.specs.List.{fold, list_any, range_with_len}
 use Rattle.std.proofs.lemmas.Bool.{true≢false, false_from_ne_true, and_parts, lt-ltb, ltb-true, eqb-true, eqb-false, cases_eq}
@@ -18,7 +19,8 @@ use Rattle.plat_base.specs.Ends.{cut_at, ended_of, is_live, time_of, end_after}
 use Rattle.plat_base.specs.Coarse.{Coarse, coarse_start}
 use Rattle.plat_base.specs.Frames.{is_starved}
 use Rattle.plat_base.specs.Messages.{switch_items}
-use Rattle.plat_base.specs.Turns.{Made, made, decided, fault_items, fault_made, grant_of, access_made, made_by, with_made, guest_now, thaw_items, thaw, is_pass, daemon, turn, turns, made_reached}
+use Rattle.plat_base.specs.Turns.{Made, made, decided, fault_items, fault_made, grant_of, access_made, made_by, with_made, guest_now}
+use Rattle.plat_base.specs.Turns.{thaw_items, thaw, is_pass, daemon, turn, turns, made_reached}
 use Rattle.plat_base.specs.Schedule.{scheduled, coarse_run}
 use Rattle.plat_base.specs.Rules.{has_daemon, stands, has_made, wants_right, is_end, is_in_order, bad_after, Good, HasEnoughFrames}
 use Rattle.plat_base.specs.declared.endings.End.{End}
@@ -37,14 +39,21 @@ use Rattle.plat_coarse_laws.specs.Sound.{IsSettled, IsNextChange, Sound}
 use Rattle.plat_coarse_laws.specs.Live.{AreLive}
 use Rattle.plat_laws.proofs.Limits.{budget-some}
 use Rattle.plat_laws.proofs.ItemLaws.{is_by, is_in_order-not_mine}
-use Rattle.plat_laws.proofs.EndLaws.{is_end-halted, is_end-trapped, is_end-spent, is_end-cut, is_end-no_frames, is_in_order-from, is_live-below, is_live-cut, is_in_order-live, IsGuest-no_operations, bad_after-more, first_bad-none}
-use Rattle.plat_coarse_laws.proofs.SettledLaws.{settled-access, settled-ends, settled-start, settled-hit, settled-granted, settled-may_apply, settled-posted}
+use Rattle.plat_laws.proofs.EndLaws.{is_end-halted, is_end-trapped, is_end-spent, is_end-cut, is_end-no_frames, is_in_order-from}
+use Rattle.plat_laws.proofs.EndLaws.{is_live-below, is_live-cut, is_in_order-live, IsGuest-no_operations, bad_after-more, first_bad-none}
+use Rattle.plat_coarse_laws.proofs.SettledLaws.{settled-access, settled-ends, settled-start, settled-hit, settled-granted}
+use Rattle.plat_coarse_laws.proofs.SettledLaws.{settled-may_apply, settled-posted}
 use Rattle.plat_coarse_laws.proofs.SettledSwitchLaws.{settled-switch}
 use Rattle.plat_coarse_laws.proofs.FrameLaws.{starving}
 use Rattle.plat_laws.proofs.GuestLaws.{IsGuest-start, IsGuest-local, IsGuest-print, IsReach, IsReach-wanted, reach_of-page}
 use Rattle.plat_coarse_laws.proofs.MessageLaws.{posted, switch_items-none_by, fault_items-parts}
-use Rattle.plat_coarse_laws.proofs.TurnItemLaws.{access_of, WantsAccess, WantsSwitch, bad_after-hit, bad_after-fault, bad_after-thaw, bad_after-switch, has_daemon-is_pass, fault_change, next_change-fault, next_change-thaw, thaw_change, access_by-none_by, access_by-operations_other, fault_items-operations_other, fault_items-none_by_ended, thaw_items-operations, thaw_items-none_by_ended, switch_items-operations_other, IsGuest-hit, IsGuest-fault, IsGuest-switched}
-use Rattle.plat_coarse_laws.proofs.RunLaws.{ended_of-set_same, ended_of-set_other, length-ends_set, is_live-set_other, is_live-set_before, after_turn, scheduled_holds, live_processors-none, scheduled-time, time_of-less}
+use Rattle.plat_coarse_laws.proofs.TurnItemLaws.{access_of, WantsAccess, WantsSwitch, bad_after-hit, bad_after-fault, bad_after-thaw}
+use Rattle.plat_coarse_laws.proofs.TurnItemLaws.{bad_after-switch, has_daemon-is_pass, fault_change, next_change-fault, next_change-thaw}
+use Rattle.plat_coarse_laws.proofs.TurnItemLaws.{thaw_change, access_by-none_by, access_by-operations_other, fault_items-operations_other}
+use Rattle.plat_coarse_laws.proofs.TurnItemLaws.{fault_items-none_by_ended, thaw_items-operations, thaw_items-none_by_ended}
+use Rattle.plat_coarse_laws.proofs.TurnItemLaws.{switch_items-operations_other, IsGuest-hit, IsGuest-fault, IsGuest-switched}
+use Rattle.plat_coarse_laws.proofs.RunLaws.{ended_of-set_same, ended_of-set_other, length-ends_set, is_live-set_other, is_live-set_before}
+use Rattle.plat_coarse_laws.proofs.RunLaws.{after_turn, scheduled_holds, live_processors-none, scheduled-time, time_of-less}
 
 -- ---- how a turn leaves its processor
 
@@ -54,7 +63,8 @@ record IsLeft (m : Machine) (items : List Item) (q turns : ℕ) (e : End) : Type
   left : e ≡ end.Cut → turns < m.budget
   guest : e ≡ end.Cut → IsGuest m items turns q
 
-left-cut : (m : Machine) (items : List Item) (q turns : ℕ) → IsGuest m items turns q → turns ≤ m.budget → IsLeft m items q turns (end_after m turns end.Cut)
+left-cut : (m : Machine) (items : List Item) (q turns : ℕ) → IsGuest m items turns q → turns ≤ m.budget →
+    IsLeft m items q turns (end_after m turns end.Cut)
 left-cut m items q turns g l = by (turns == m.budget) refl
   where
     by : (b : Bool) → (turns == m.budget) ≡ b → IsLeft m items q turns (if b then end.Spent else end.Cut)
@@ -67,7 +77,8 @@ left-cut m items q turns g l = by (turns == m.budget) refl
         let other : turns ≢ m.budget = eqb-false turns m.budget h
         in record { ends = is_end-cut m items turns q g; left = λ e. omega arith; guest = λ e. g }
 
-left-ended : (m : Machine) (items : List Item) (q turns : ℕ) (e : End) → is_end m items q e turns ≡ true → e ≢ end.Cut → IsLeft m items q turns e
+left-ended : (m : Machine) (items : List Item) (q turns : ℕ) (e : End) → is_end m items q e turns ≡ true → e ≢ end.Cut →
+    IsLeft m items q turns e
 left-ended m items q turns e h d = record { ends = h; left = λ same. absurd (d same); guest = λ same. absurd (d same) }
 
 -- what a turn of q adds, and how it leaves q
@@ -80,7 +91,8 @@ record IsTurn (m : Machine) (answer : Answer) (s : Coarse) (q : ℕ) (x : Made) 
 
 -- the turn keeps the invariant, before the daemon's pass
 
-module _ (m : Machine) (answer : Answer) (s : Coarse) (q : ℕ) (x : Made) (h : Sound m answer s) (v : is_live s.ends q ≡ true) (k : IsTurn m answer s q x) where
+module _ (m : Machine) (answer : Answer) (s : Coarse) (q : ℕ) (x : Made) (h : Sound m answer s) (v : is_live s.ends q ≡ true)
+    (k : IsTurn m answer s q x) where
   abbrev after : Ended
   after = after_turn s.ends q (end_after m ((ended_of s.ends q).turns + 1) x.end)
 
@@ -111,13 +123,19 @@ module _ (m : Machine) (answer : Answer) (s : Coarse) (q : ℕ) (x : Made) (h : 
   other_live r d = is_live-set_other s.ends q r after d
 
   next_turns : (r : ℕ) → r < m.nodes → (ended_of next.ends r).turns ≤ m.budget
-  next_turns r l = ⊎_elim (λ same. omega (arith, ap (λ r. (ended_of next.ends r).turns) same, own_turns, h.left q v)) (λ d. omega (arith, other_turns r d, h.turns r l)) (cases_eq r q)
+  next_turns r l = ⊎_elim (λ same. omega (arith, ap (λ r. (ended_of next.ends r).turns) same, own_turns, h.left q v))
+      (λ d. omega (arith, other_turns r d, h.turns r l)) (cases_eq r q)
 
   next_left : (r : ℕ) → is_live next.ends r ≡ true → (ended_of next.ends r).turns < m.budget
   next_left r w = ⊎_elim at (λ d. omega (arith, other_turns r d, h.left r (sym (other_live r d) ∙ w))) (cases_eq r q)
     where
       at : r ≡ q → (ended_of next.ends r).turns < m.budget
-      at same = omega (arith, ap (λ r. (ended_of next.ends r).turns) same, own_turns, k.leaves.left (own_end (sym (ap (is_live next.ends) same) ∙ w)))
+      at same = omega (
+        arith,
+        ap (λ r. (ended_of next.ends r).turns) same,
+        own_turns,
+        k.leaves.left (own_end (sym (ap (is_live next.ends) same) ∙ w)),
+      )
 
   next_guest : (r : ℕ) → is_live next.ends r ≡ true → IsGuest m next.history (ended_of next.ends r).turns r
   next_guest r w = ⊎_elim at away (cases_eq r q)
@@ -128,7 +146,8 @@ module _ (m : Machine) (answer : Answer) (s : Coarse) (q : ℕ) (x : Made) (h : 
           (rw own_turns (k.leaves.guest (own_end (sym (ap (is_live next.ends) same) ∙ w))))
 
       away : r ≢ q → IsGuest m next.history (ended_of next.ends r).turns r
-      away d = rw (other_turns r d) (IsGuest-no_operations m s.history x.items (ended_of s.ends r).turns r (h.guest r (sym (other_live r d) ∙ w)) (k.others r d))
+      away d = rw (other_turns r d) (IsGuest-no_operations m s.history x.items (ended_of s.ends r).turns r
+          (h.guest r (sym (other_live r d) ∙ w)) (k.others r d))
 
   next_ended : (r : ℕ) → r < m.nodes → is_live next.ends r ≡ false → is_in_order m next.history next.ends r ≡ true
   next_ended r l w = ⊎_elim at away (cases_eq r q)
@@ -145,18 +164,21 @@ module _ (m : Machine) (answer : Answer) (s : Coarse) (q : ℕ) (x : Made) (h : 
 
   made_sound : Sound m answer next
   made_sound = record {
-    items = bad_after-more m answer [] 0 s.history x.items h.items (ap (λ n. bad_after m answer s.history n x.items) (omega arith) ∙ k.good);
+    items = bad_after-more m answer [] 0 s.history x.items h.items (ap (λ n. bad_after m answer s.history n x.items) (omega arith)
+        ∙ k.good);
     count = length-ends_set s.ends q after ∙ h.count;
     turns = next_turns;
     left = next_left;
     guest = next_guest;
     ended = next_ended;
-    settled = settled-ends m (record { history = s.history ++ x.items; ends = s.ends }) next.ends (λ r w. is_live-set_before s.ends q r after v w) k.settled;
+    settled = settled-ends m (record { history = s.history ++ x.items; ends = s.ends }) next.ends
+        (λ r w. is_live-set_before s.ends q r after v w) k.settled;
   }
 
 -- ---- what a turn adds, by what its guest wants
 
-module _ (m : Machine) (answer : Answer) (s : Coarse) (q : ℕ) (machine : IsWithinLimits m) (h : Sound m answer s) (v : is_live s.ends q ≡ true) where
+module _ (m : Machine) (answer : Answer) (s : Coarse) (q : ℕ) (machine : IsWithinLimits m) (h : Sound m answer s)
+    (v : is_live s.ends q ≡ true) where
   abbrev before : ℕ
   before = (ended_of s.ends q).turns
 
@@ -182,13 +204,15 @@ module _ (m : Machine) (answer : Answer) (s : Coarse) (q : ℕ) (machine : IsWit
 
   -- a switch
 
-  switch_turn : (space : ℕ) → want_of m q (guest_now m s q).state ≡ want.Switch space → IsTurn m answer s q (made (switch_items m s.history q space) end.Cut)
+  switch_turn : (space : ℕ) → want_of m q (guest_now m s q).state ≡ want.Switch space →
+      IsTurn m answer s q (made (switch_items m s.history q space) end.Cut)
   switch_turn space w = record {
     good = bad_after-switch m answer s.history (length s.history) before q space wants;
     settled = settled-switch m s q space h.settled node;
     others = λ r d. switch_items-operations_other m s.history q space r (λ same. d (sym same));
     ended = λ r d e. switch_items-none_by m s.history q space r (λ same. d (sym same));
-    leaves = left-cut m (s.history ++ switch_items m s.history q space) q (before + 1) (IsGuest-switched m s.history before q space wants) fewer;
+    leaves = left-cut m (s.history ++ switch_items m s.history q space) q (before + 1) (IsGuest-switched m s.history before q space wants)
+        fewer;
   }
     where
       wants : WantsSwitch m s.history before q space
@@ -209,7 +233,8 @@ module _ (m : Machine) (answer : Answer) (s : Coarse) (q : ℕ) (machine : IsWit
     here : active m s.history q ≡ space_of m entry
     here = sym (h.guest q v).space ∙ sym reached.space ∙ sym reached.in_space
 
-    hit_turn : (t : Translation) → held m s.history q entry ≡ Some t → has_right k (Some t) ≡ true → IsTurn m answer s q (made (access_by m s.history q (reach_of m k sp a o) t.grant.frame t.seq ∷ []) end.Cut)
+    hit_turn : (t : Translation) → held m s.history q entry ≡ Some t → has_right k (Some t) ≡ true →
+        IsTurn m answer s q (made (access_by m s.history q (reach_of m k sp a o) t.grant.frame t.seq ∷ []) end.Cut)
     hit_turn t e r = record {
       good =
           bad_after-hit m answer s.history (length s.history) before q k sp a o t wants e r
@@ -220,7 +245,8 @@ module _ (m : Machine) (answer : Answer) (s : Coarse) (q : ℕ) (machine : IsWit
       leaves = left-cut m _ q (before + 1) (IsGuest-hit m s.history before q k sp a o t.grant.frame t.seq wants) fewer;
     }
       where
-        fresh : (later removes_all s.history (page_of m entry) t.seq ≡ false) × (t.grant.right ≡ right.Write → later removes_writes s.history (page_of m entry) t.seq ≡ false)
+        fresh : (later removes_all s.history (page_of m entry) t.seq ≡ false)
+            × (t.grant.right ≡ right.Write → later removes_writes s.history (page_of m entry) t.seq ≡ false)
         fresh = settled-hit m s q entry t h.settled v node reached.below here e
 
     module _ (now : ℕ) (r : has_right k (held m s.history q entry) ≡ false) where
@@ -229,7 +255,9 @@ module _ (m : Machine) (answer : Answer) (s : Coarse) (q : ℕ) (machine : IsWit
           let page = reach_of-page m (guest_now m s q).state k sp a o entry machine reached
           in let less = starving m s.history q (reach_of m k sp a o).page few page node (dirs (reach_of m k sp a o).page page)
           in nothing_turn end.NoFrames
-          (left-ended m s.history q (before + 1) end.NoFrames (is_end-no_frames m s.history before q k sp a o (h.guest q v) w (ap (λ e. has_right k (held_through m s.history q e)) reached.found ∙ r) less) (λ e. cc))
+          (left-ended m s.history q (before + 1) end.NoFrames
+          (is_end-no_frames m s.history before q k sp a o (h.guest q v) w
+          (ap (λ e. has_right k (held_through m s.history q e)) reached.found ∙ r) less) (λ e. cc))
 
       abbrev reach : Reach
       reach = reach_of m k sp a o
@@ -240,21 +268,29 @@ module _ (m : Machine) (answer : Answer) (s : Coarse) (q : ℕ) (machine : IsWit
       abbrev change : Change
       change = fault_change s.history q now entry reach chosen
 
-      granted : IsNextChange m s.history change → (held m (posted m s change) q entry ≡ Some (record { grant = grant_of entry (cause_of k) chosen; seq = change.seq; restricted = false })) × (later removes_all (posted m s change) change.page change.seq ≡ false) × (later removes_writes (posted m s change) change.page change.seq ≡ false)
+      granted : IsNextChange m s.history change →
+          (held m (posted m s change) q entry
+          ≡ Some (record { grant = grant_of entry (cause_of k) chosen; seq = change.seq; restricted = false }))
+          × (later removes_all (posted m s change) change.page change.seq ≡ false)
+          × (later removes_writes (posted m s change) change.page change.seq ≡ false)
       granted n = settled-granted m s change h.settled n (grant_of entry (cause_of k) chosen) refl
 
-      fault_settled : IsNextChange m s.history change → IsSettled m (record { history = s.history ++ fault_items m s q now entry reach chosen; ends = s.ends })
+      fault_settled : IsNextChange m s.history change →
+          IsSettled m (record { history = s.history ++ fault_items m s q now entry reach chosen; ends = s.ends })
       fault_settled n =
           rw (fault_items-parts m s q now entry reach chosen)
-          (settled-access m (record { history = posted m s change; ends = s.ends }) (access_of m s.history q reach chosen.frame (seq_of s.history reach.page))
+          (settled-access m (record { history = posted m s change; ends = s.ends })
+          (access_of m s.history q reach chosen.frame (seq_of s.history reach.page))
           (settled-posted m s change h.settled n))
 
-      fault_turn : is_starved m s.history q reach.page ≡ false → IsTurn m answer s q (made (fault_items m s q now entry reach chosen) end.Cut)
+      fault_turn : is_starved m s.history q reach.page ≡ false →
+          IsTurn m answer s q (made (fault_items m s q now entry reach chosen) end.Cut)
       fault_turn enough =
           let n = next_change-fault m answer s.history before q now k sp a o wants dirs enough
           in let g = granted n
           in record {
-            good = bad_after-fault m answer s (length s.history) before q now k sp a o wants dirs enough r (settled-may_apply m s change h.settled n) g.0 g.1 g.2;
+            good = bad_after-fault m answer s (length s.history) before q now k sp a o wants dirs enough r
+                (settled-may_apply m s change h.settled n) g.0 g.1 g.2;
             settled = fault_settled n;
             others = λ p d. fault_items-operations_other m s q now entry reach chosen p (λ same. d (sym same));
             ended = λ p d e. fault_items-none_by_ended m s q now entry reach chosen p (λ same. d (sym same)) e;
@@ -264,59 +300,74 @@ module _ (m : Machine) (answer : Answer) (s : Coarse) (q : ℕ) (machine : IsWit
       no_right_turn : IsTurn m answer s q (fault_made m answer s q now entry reach)
       no_right_turn = by (is_starved m s.history q reach.page) refl
         where
-          by : (b : Bool) → is_starved m s.history q reach.page ≡ b → IsTurn m answer s q (if b then made [] end.NoFrames else made (fault_items m s q now entry reach chosen) end.Cut)
+          by : (b : Bool) → is_starved m s.history q reach.page ≡ b →
+              IsTurn m answer s q (if b then made [] end.NoFrames else made (fault_items m s q now entry reach chosen) end.Cut)
           by true few = starved_turn few
           by false enough = fault_turn enough
 
     access_turn : (now : ℕ) → IsTurn m answer s q (access_made m answer s q now entry (reach_of m k sp a o) (held m s.history q entry))
     access_turn now = by (held m s.history q entry) refl
       where
-        at : (t : Translation) → held m s.history q entry ≡ Some t → (b : Bool) → has_right k (Some t) ≡ b → IsTurn m answer s q (if b then made (access_by m s.history q (reach_of m k sp a o) t.grant.frame t.seq ∷ []) end.Cut else fault_made m answer s q now entry (reach_of m k sp a o))
+        at : (t : Translation) → held m s.history q entry ≡ Some t → (b : Bool) → has_right k (Some t) ≡ b →
+            IsTurn m answer s q (if b then made (access_by m s.history q (reach_of m k sp a o) t.grant.frame t.seq ∷ []) end.Cut
+            else fault_made m answer s q now entry (reach_of m k sp a o))
         at t e true r = hit_turn t e r
         at t e false r = no_right_turn now (ap (has_right k) e ∙ r)
 
-        by : (t : Option Translation) → held m s.history q entry ≡ t → IsTurn m answer s q (access_made m answer s q now entry (reach_of m k sp a o) t)
+        by : (t : Option Translation) → held m s.history q entry ≡ t →
+            IsTurn m answer s q (access_made m answer s q now entry (reach_of m k sp a o) t)
         by None e = no_right_turn now (ap (has_right k) e)
         by (Some t) e = at t e (has_right k (Some t)) refl
 
   made_turn : (now : ℕ) (w : Want) → want_of m q (guest_now m s q).state ≡ w → IsTurn m answer s q (made_by m answer s q now w)
-  made_turn now want.Local w = nothing_turn end.Cut (left-cut m s.history q (before + 1) (IsGuest-local m s.history before q (h.guest q v) w) fewer)
+  made_turn now want.Local w = nothing_turn end.Cut
+      (left-cut m s.history q (before + 1) (IsGuest-local m s.history before q (h.guest q v) w) fewer)
   made_turn now (want.Access k sp a o) w =
       subst (λ e. IsTurn m answer s q (made_reached m answer s q now (reach_of m k sp a o) e)) (sym (reached k sp a o w).found)
       (access_turn k sp a o w now)
   made_turn now (want.Switch space) w = switch_turn space w
-  made_turn now (want.Print value) w = nothing_turn end.Cut (left-cut m s.history q (before + 1) (IsGuest-print m s.history before q value (h.guest q v) w) fewer)
-  made_turn now want.Halted w = nothing_turn end.Halted (left-ended m s.history q (before + 1) end.Halted (is_end-halted m s.history before q (h.guest q v) w) (λ e. cc))
-  made_turn now want.Trap w = nothing_turn end.Trapped (left-ended m s.history q (before + 1) end.Trapped (is_end-trapped m s.history before q (h.guest q v) w) (λ e. cc))
+  made_turn now (want.Print value) w =
+      nothing_turn end.Cut (left-cut m s.history q (before + 1) (IsGuest-print m s.history before q value (h.guest q v) w) fewer)
+  made_turn now want.Halted w = nothing_turn end.Halted
+      (left-ended m s.history q (before + 1) end.Halted (is_end-halted m s.history before q (h.guest q v) w) (λ e. cc))
+  made_turn now want.Trap w = nothing_turn end.Trapped
+      (left-ended m s.history q (before + 1) end.Trapped (is_end-trapped m s.history before q (h.guest q v) w) (λ e. cc))
 
 -- ---- the daemon's pass
 
-pub thaw_sound : (m : Machine) (answer : Answer) (s : Coarse) (now p : ℕ) → Sound m answer s → has_daemon m.policy ≡ true → p < m.pages → Sound m answer (thaw m answer now s p)
+pub thaw_sound : (m : Machine) (answer : Answer) (s : Coarse) (now p : ℕ) → Sound m answer s → has_daemon m.policy ≡ true → p < m.pages →
+    Sound m answer (thaw m answer now s p)
 thaw_sound m answer s now p h daemon l = by (dir_of s.history p).frozen refl
   where
-    frozen : (dir_of s.history p).frozen ≡ true → Sound m answer (record { history = s.history ++ thaw_items m answer s now p; ends = s.ends })
+    frozen : (dir_of s.history p).frozen ≡ true →
+        Sound m answer (record { history = s.history ++ thaw_items m answer s now p; ends = s.ends })
     frozen f =
         let dir = (h.settled.page p l).dir
         in let n = next_change-thaw m answer s.history now p l dir f
         in let may = settled-may_apply m s (thaw_change m answer s.history now p) h.settled n
         in record {
-          items = bad_after-more m answer [] 0 s.history (thaw_items m answer s now p) h.items (bad_after-thaw m answer s (0 + length s.history) now p l dir f daemon may);
+          items = bad_after-more m answer [] 0 s.history (thaw_items m answer s now p) h.items
+              (bad_after-thaw m answer s (0 + length s.history) now p l dir f daemon may);
           count = h.count;
           turns = h.turns;
           left = h.left;
-          guest = λ q v. IsGuest-no_operations m s.history (thaw_items m answer s now p) (ended_of s.ends q).turns q (h.guest q v) (thaw_items-operations m answer s now p q);
+          guest = λ q v. IsGuest-no_operations m s.history (thaw_items m answer s now p) (ended_of s.ends q).turns q (h.guest q v)
+              (thaw_items-operations m answer s now p q);
           ended = λ q u v.
-              is_in_order-not_mine m s.history (thaw_items m answer s now p) s.ends s.ends q (thaw_items-none_by_ended m answer s now p q u v) refl
+              is_in_order-not_mine m s.history (thaw_items m answer s now p) s.ends s.ends q
+              (thaw_items-none_by_ended m answer s now p q u v) refl
               ∙ h.ended q u v;
           settled = settled-posted m s (thaw_change m answer s.history now p) h.settled n;
         }
 
-    by : (b : Bool) → (dir_of s.history p).frozen ≡ b → Sound m answer (if b then record { history = s.history ++ thaw_items m answer s now p; ends = s.ends } else s)
+    by : (b : Bool) → (dir_of s.history p).frozen ≡ b →
+        Sound m answer (if b then record { history = s.history ++ thaw_items m answer s now p; ends = s.ends } else s)
     by true f = frozen f
     by false f = h
 
 -- thaws of the pages from a on
-pub thaws_sound : (m : Machine) (answer : Answer) (s : Coarse) (now a n : ℕ) → Sound m answer s → has_daemon m.policy ≡ true → a + n ≤ m.pages → Sound m answer (fold (thaw m answer now) s (range_with_len a n))
+pub thaws_sound : (m : Machine) (answer : Answer) (s : Coarse) (now a n : ℕ) → Sound m answer s → has_daemon m.policy ≡ true →
+    a + n ≤ m.pages → Sound m answer (fold (thaw m answer now) s (range_with_len a n))
 thaws_sound m answer s now a zero h daemon l = h
 thaws_sound m answer s now a (suc n) h daemon l =
     thaws_sound m answer (thaw m answer now s a) now (a + 1) n (thaw_sound m answer s now a h daemon (omega arith)) daemon (omega arith)
@@ -331,12 +382,14 @@ daemon_sound m answer s now h = by (is_pass m.policy now) refl
 -- ---- a turn
 
 -- what the guest of a live processor wants keeps the invariant, at whatever tick
-pub with_made_sound : (m : Machine) (answer : Answer) (s : Coarse) (q now : ℕ) → IsWithinLimits m → Sound m answer s → is_live s.ends q ≡ true → Sound m answer (with_made m s q (made_by m answer s q now (want_of m q (guest_now m s q).state)))
+pub with_made_sound : (m : Machine) (answer : Answer) (s : Coarse) (q now : ℕ) → IsWithinLimits m → Sound m answer s →
+    is_live s.ends q ≡ true → Sound m answer (with_made m s q (made_by m answer s q now (want_of m q (guest_now m s q).state)))
 with_made_sound m answer s q now machine h v =
     let w = want_of m q (guest_now m s q).state
     in made_sound m answer s q (made_by m answer s q now w) h v (made_turn m answer s q machine h v now w refl)
 
-pub turn_sound : (m : Machine) (answer : Answer) (s : Coarse) (q : ℕ) → IsWithinLimits m → Sound m answer s → is_live s.ends q ≡ true → Sound m answer (turn m answer s q)
+pub turn_sound : (m : Machine) (answer : Answer) (s : Coarse) (q : ℕ) → IsWithinLimits m → Sound m answer s → is_live s.ends q ≡ true →
+    Sound m answer (turn m answer s q)
 turn_sound m answer s q machine h v =
     let now = time_of s.ends + 1
     in let x = made_by m answer s q now (want_of m q (guest_now m s q).state)
@@ -364,7 +417,8 @@ sound_start m answer machine = record {
 }
 
 -- the turns of a list of processors each of which is live when its turn comes
-pub turns_sound : (m : Machine) (answer : Answer) (s : Coarse) (qs : List ℕ) → IsWithinLimits m → Sound m answer s → AreLive m answer s qs → Sound m answer (turns m answer s qs)
+pub turns_sound : (m : Machine) (answer : Answer) (s : Coarse) (qs : List ℕ) → IsWithinLimits m → Sound m answer s → AreLive m answer s qs →
+    Sound m answer (turns m answer s qs)
 turns_sound m answer s [] machine h v = h
 turns_sound m answer s (q ∷ qs) machine h v =
     turns_sound m answer (turn m answer s q) qs machine (turn_sound m answer s q machine h v.0) v.1
@@ -395,12 +449,14 @@ run_good m answer machine = good_of_sound m answer (coarse_run m answer) (coarse
 starved_few : (m : Machine) (items : List Item) (q t : ℕ) → is_end m items q end.NoFrames (suc t) ≡ true → m.frames < m.pages
 starved_few m items q t h =
     let r = guest_run m q (values_of q items) t
-    in let all = and_parts (nat_lt m.frames m.pages && stands r t GoesOn && has_made items q r) (wants_right m items q (want_of m q r.state)) h
+    in let all = and_parts (nat_lt m.frames m.pages && stands r t GoesOn && has_made items q r)
+    (wants_right m items q (want_of m q r.state)) h
     in let two = and_parts (nat_lt m.frames m.pages && stands r t GoesOn) (has_made items q r) all.0
     in ltb-true m.frames m.pages (and_parts (nat_lt m.frames m.pages) (stands r t GoesOn) two.0).0
 
 -- where there is a frame for each page on each module, no processor ends for want of frames
-pub sound-no_frames : (m : Machine) (answer : Answer) (s : Coarse) (q : ℕ) → HasEnoughFrames m → Sound m answer s → q < m.nodes → (ended_of s.ends q).end ≢ end.NoFrames
+pub sound-no_frames : (m : Machine) (answer : Answer) (s : Coarse) (q : ℕ) → HasEnoughFrames m → Sound m answer s → q < m.nodes →
+    (ended_of s.ends q).end ≢ end.NoFrames
 sound-no_frames m answer s q enough h l e = by (is_live s.ends q) refl
   where
     starved : (t : ℕ) → is_end m s.history q end.NoFrames t ≡ true → ⊥
@@ -410,10 +466,12 @@ sound-no_frames m answer s q enough h l e = by (is_live s.ends q) refl
 
     by : (b : Bool) → is_live s.ends q ≡ b → ⊥
     by true v = cc (is_live-cut s.ends q v)
-    by false v = starved (ended_of s.ends q).turns (sym (ap (λ x. is_end m s.history q x (ended_of s.ends q).turns) e) ∙ (and_parts (nat_le (ended_of s.ends q).turns m.budget) _ (h.ended q l v)).1)
+    by false v = starved (ended_of s.ends q).turns (sym (ap (λ x. is_end m s.history q x (ended_of s.ends q).turns) e)
+        ∙ (and_parts (nat_le (ended_of s.ends q).turns m.budget) _ (h.ended q l v)).1)
 
 -- once the turns of all budgets are made nobody is live
-pub sound-over : (m : Machine) (answer : Answer) (s : Coarse) (q : ℕ) → Sound m answer s → time_of s.ends ≡ m.nodes * m.budget → is_live s.ends q ≡ false
+pub sound-over : (m : Machine) (answer : Answer) (s : Coarse) (q : ℕ) → Sound m answer s → time_of s.ends ≡ m.nodes * m.budget →
+    is_live s.ends q ≡ false
 sound-over m answer s q h t =
     false_from_ne_true (is_live s.ends q) (λ v.
     let less = time_of-less s.ends m.budget q (λ r l. h.turns r (rw h.count at l)) (is_live-below s.ends q v) (h.left q v)
@@ -426,15 +484,18 @@ unfolding coarse_run
 run_over m answer q machine l =
     let k = m.nodes * m.budget
     in let s = (scheduled m answer k).coarse
-    in ⊎_elim (λ none. live_processors-none m s q none l) (sound-over m answer s q (run_sound m answer k machine)) (scheduled-time m answer k)
+    in ⊎_elim (λ none. live_processors-none m s q none l) (sound-over m answer s q (run_sound m answer k machine))
+    (scheduled-time m answer k)
 
 -- so each guest has halted, trapped or made its budget, or found no frame
-pub run_not_cut : (m : Machine) (answer : Answer) (q : ℕ) → IsWithinLimits m → q < m.nodes → (ended_of (coarse_run m answer).ends q).end ≢ end.Cut
+pub run_not_cut : (m : Machine) (answer : Answer) (q : ℕ) → IsWithinLimits m → q < m.nodes →
+    (ended_of (coarse_run m answer).ends q).end ≢ end.Cut
 run_not_cut m answer q machine l e =
     let s = coarse_run m answer
     in let below : q < length s.ends = omega (arith, (coarse_run_sound m answer machine).count)
     in let live : is_live s.ends q ≡ true = rw (lt-ltb q (length s.ends) below) (ap (λ x. same_end x end.Cut) e)
     in true≢false (sym live ∙ run_over m answer q machine l)
 
-pub run_no_frames : (m : Machine) (answer : Answer) (q : ℕ) → IsWithinLimits m → HasEnoughFrames m → q < m.nodes → (ended_of (coarse_run m answer).ends q).end ≢ end.NoFrames
+pub run_no_frames : (m : Machine) (answer : Answer) (q : ℕ) → IsWithinLimits m → HasEnoughFrames m → q < m.nodes →
+    (ended_of (coarse_run m answer).ends q).end ≢ end.NoFrames
 run_no_frames m answer q machine enough l = sound-no_frames m answer (coarse_run m answer) q enough (coarse_run_sound m answer machine) l

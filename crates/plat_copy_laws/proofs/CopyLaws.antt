@@ -1,7 +1,7 @@
 -- in every state with the invariant: copies that translations lead to are current, frames are apart, and shootdowns remove
 use Rattle.std.specs.Prelude.{◌≡◌, ◌≢◌, ℕ, ◌<◌, ◌==◌, ◌&&◌, ◌||◌, not, if◌then◌else◌, Bool, true, false, List, Option, Some, None, is_some}
 use Rattle.std.proofs.Common.{refl, ap, sym, ◌∙◌, ◌⊎◌, inl, inr, arith, subst}
-use Rattle.std.proofs.lemmas.Bool.{and_parts, cases_eq, eqb-true, eq-eqb}
+use Rattle.std.proofs.lemmas.Bool.{and_parts, cases_eq, eqb-true, eq-eqb, or_from}
 use Rattle.plat_base.specs.Verdicts.{Answer}
 use Rattle.plat_base.specs.Machine.{Machine}
 use Rattle.plat_base.specs.Pages.{page_of}
@@ -21,7 +21,8 @@ use Rattle.plat_events.specs.Words.{has_invalidate, has_restrict, has_message}
 use Rattle.plat_events.specs.Places.{entry_count}
 use Rattle.plat_events.specs.Sessions.{Session}
 use Rattle.plat_events.specs.Standings.{removes_by, has_granted}
-use Rattle.plat_events.specs.Kept.{Running, session_on, session_of, gave_back, is_copy_of, is_kept, is_active, is_usable, word_at, private_of}
+use Rattle.plat_events.specs.Kept.{Running, session_on, session_of, gave_back, is_copy_of, is_kept, is_active, is_usable, word_at}
+use Rattle.plat_events.specs.Kept.{private_of}
 use Rattle.plat_events.specs.Views.{Own, Another, View, EntryOk, session_view, translation_of, view}
 use Rattle.plat_events.specs.Runs.{Fine, fine_start, run, AllLive}
 use Rattle.plat_events.specs.Shown.{is_free, uses_of, Shows}
@@ -34,7 +35,8 @@ use Rattle.plat_frame_laws.specs.Phased.{running}
 use Rattle.plat_frame_laws.proofs.FrameUseLaws.{page_uses, kept-uses, used-not_free, used-apart}
 use Rattle.plat_frame_laws.proofs.HandLaws.{alone, kept-frame}
 use Rattle.plat_event_laws.proofs.RunLaws.{run-shows}
-use Rattle.plat_copy_laws.specs.Coherence.{left_of, MayReach, LeadsToCurrent, ReachesCurrent, AreApart, IsPassed, ShootdownsRemove, OwesNothing}
+use Rattle.plat_copy_laws.specs.Coherence.{left_of, MayReach, LeadsToCurrent, ReachesCurrent, AreApart, IsPassed, ShootdownsRemove}
+use Rattle.plat_copy_laws.specs.Coherence.{OwesNothing}
 use Rattle.plat_copy_laws.proofs.ReachLaws.{effective-stays, reached_kept}
 use Rattle.plat_copy_laws.proofs.GrantedLaws.{granted-current}
 use Rattle.plat_copy_laws.proofs.PassedLaws.{counted-passed, quiet-passed}
@@ -48,10 +50,6 @@ none-from (Some x) h = absurd cc
 read-right : (r : Right) → serves Store r ≡ false → r ≡ right.Read
 read-right right.Read h = refl
 read-right right.Write h = absurd cc
-
-neither : (b c : Bool) → b ≡ false → c ≡ false → (b || c) ≡ false
-neither false c h k = k
-neither true c h k = absurd cc
 
 both-false : (b c : Bool) → (b ≡ true → c ≡ false) → (b && c) ≡ false
 both-false true c h = h refl
@@ -79,7 +77,8 @@ module _ (m : Machine) (answer : Answer) (s : Fine) (limits : IsWithinLimits m) 
             ((view m answer s q e).invalidate ≡ false) ⊎ ((view m answer s q e).usable ≡ true)
         by (inl stays) =
             inl
-            (effective-stays (has_invalidate (word_at m s (Cmap e)) q) (has_restrict (word_at m s (Cmap e)) q) (translation_of m s q e) stays)
+            (effective-stays (has_invalidate (word_at m s (Cmap e)) q) (has_restrict (word_at m s (Cmap e)) q) (translation_of m s q e)
+            stays)
         by (inr usable) = inr usable
 
     -- the session of the processor itself that has granted the entry
@@ -131,7 +130,8 @@ module _ (m : Machine) (answer : Answer) (s : Fine) (limits : IsWithinLimits m) 
       seen-removes what is = ap (λ o. (session_view m answer q e (translation_of m s q e) o).removes) passed.on ∙ is
 
       pub passed-none :
-          removes_by m answer r.actor r.now r.session ≡ removed.All → is_usable m (private_of m s q) e ≡ true → translation_of m s q e ≡ None
+          removes_by m answer r.actor r.now r.session ≡ removed.All → is_usable m (private_of m s q) e ≡ true →
+          translation_of m s q e ≡ None
       passed-none all usable =
           none-from (translation_of m s q e)
           (passed_all (view m answer s q e) facts ok seen-posted seen-owed usable seen-granted (seen-removes removed.All all))
@@ -154,9 +154,10 @@ module _ (m : Machine) (answer : Answer) (s : Fine) (limits : IsWithinLimits m) 
         let on : session_on s.privates (page_of m e) ≡ Some (running q (private_of m s q).now x) =
         ap (session_on s.privates) (sym of_page) ∙ shows.one_session q x (omega (arith, inside)) is in
         let own : (view m answer s q e).whose ≡ Own =
-        ap (λ o. (session_view m answer q e (translation_of m s q e) o).whose) on ∙ ap (λ b. if b then Own else Another) (eq-eqb q q refl) in
+        ap (λ o. (session_view m answer q e (translation_of m s q e) o).whose) on
+        ∙ ap (λ b. if b then Own else Another) (eq-eqb q q refl) in
         let clear = own_clear (view m answer s q e) facts ok own active in
-        neither (has_invalidate (word_at m s (Cmap e)) q) (has_restrict (word_at m s (Cmap e)) q) clear.0 clear.1
+        or_from (has_invalidate (word_at m s (Cmap e)) q) (has_restrict (word_at m s (Cmap e)) q) clear.0 clear.1
 
   -- ---- frames
 
@@ -176,7 +177,8 @@ module _ (m : Machine) (answer : Answer) (s : Fine) (limits : IsWithinLimits m) 
         by : (r ≡ p) ⊎ (r ≢ p) → p ≡ r
         by (inl same) = sym same
         by (inr apart) =
-            let none : page_uses m answer s f r ≡ 0 = used-apart m answer s f once p within (kept-uses m answer s f p kept) r inside apart in
+            let none : page_uses m answer s f r ≡ 0 =
+            used-apart m answer s f once p within (kept-uses m answer s f p kept) r inside apart in
             let some : 0 < page_uses m answer s f r = kept-uses m answer s f r also in
             absurd (omega (arith, none, some))
 

@@ -1,5 +1,6 @@
 -- the translation that a session has granted, before its unlock: its frame is current
-use Rattle.std.specs.Prelude.{◌≡◌, ℕ, ◌<◌, ◌==◌, ◌||◌, not, Bool, true, false, List, [], ◌∷◌, filter, cond, length, Option, Some, None, unwrap_or}
+use Rattle.std.specs.Prelude.{◌≡◌, ℕ, ◌<◌, ◌==◌, ◌||◌, not, Bool, true, false, List, [], ◌∷◌, filter, cond, length, Option, Some, None}
+use Rattle.std.specs.Prelude.{unwrap_or}
 use Rattle.std.proofs.Common.{refl, ap, sym, ◌∙◌, ◌⊎◌, inl, inr, arith, subst}
 use Rattle.std.specs.Option.{option_map_or}
 use Rattle.std.specs.List.{list_any}
@@ -16,7 +17,8 @@ use Rattle.plat_base.specs.declared.items.Translation.{Translation}
 use Rattle.plat_base.specs.declared.policies.Decision.{Decision}
 use Rattle.plat_laws.specs.Guests.{IsWithinLimits}
 use Rattle.plat_laws.proofs.TableLaws.{DecideFacts}
-use Rattle.plat_events.specs.Sessions.{Course, Phase, Stamping, Seeking, Taking, Returning, Shooting, Filling, Reading, Copying, Giving, Storing, Granting, Unlocking, Session, decision_of, entry_faulted, going, translation_made}
+use Rattle.plat_events.specs.Sessions.{Course, Phase, Stamping, Seeking, Taking, Returning, Shooting, Filling, Reading, Copying, Giving}
+use Rattle.plat_events.specs.Sessions.{Storing, Granting, Unlocking, Session, decision_of, entry_faulted, going, translation_made}
 use Rattle.plat_events.specs.Privates.{Private, actor_count, translation_at}
 use Rattle.plat_events.specs.Standings.{course_of, unlocking_of, frames_given, words_filled, hand_of, has_granted}
 use Rattle.plat_events.specs.Kept.{session_on, session_of, is_copy_of, is_kept, gave_back, private_of}
@@ -26,10 +28,12 @@ use Rattle.plat_events.specs.Shown.{Shows}
 use Rattle.plat_local_laws.specs.Phases.{PhaseOk, SessionOk, UnlockingOk}
 use Rattle.plat_local_laws.proofs.CourseLaws.{fault_decides}
 use Rattle.plat_fine_laws.proofs.SessionLaws.{session-ok}
-use Rattle.plat_fine_laws.proofs.TableFacts.{same_frame-same, copy_on-is}
+use Rattle.plat_fine_laws.proofs.TableFacts.{copy_on-is}
 use Rattle.plat_frame_laws.specs.Phased.{running}
 use Rattle.plat_frame_laws.proofs.HandLaws.{alone}
 use Rattle.plat_copy_laws.specs.Coherence.{IsGrantedHand, LeadsToCurrent}
+use Rattle.plat_laws.proofs.SameLaws.{same_frame-true}
+use Rattle.plat_unlock_laws.proofs.UnlockPageLaws.{going-is}
 
 -- ---- a session that has granted
 
@@ -67,21 +71,6 @@ granted-parts x e h = by (unlocking_of x.phase) refl h
 
 -- ---- frames that go
 
--- what goes passes the test by which it goes
-goes-passes : (f : Frame) (test : Frame → Bool) (fs : List Frame) → list_any (same_frame f) (filter test fs) ≡ true → test f ≡ true
-goes-passes f test [] h = absurd cc
-goes-passes f test (g ∷ gs) h = by (test g) refl h (goes-passes f test gs)
-  where
-    first : (b : Bool) → same_frame f g ≡ b → test g ≡ true → (b || list_any (same_frame f) (filter test gs)) ≡ true →
-        (list_any (same_frame f) (filter test gs) ≡ true → test f ≡ true) → test f ≡ true
-    first true same passes any more = ap test (same_frame-same f g same) ∙ passes
-    first false same passes any more = more any
-
-    by : (b : Bool) → test g ≡ b → list_any (same_frame f) (cond b (g ∷ filter test gs) (filter test gs)) ≡ true →
-        (list_any (same_frame f) (filter test gs) ≡ true → test f ≡ true) → test f ≡ true
-    by true passes any more = first (same_frame f g) refl passes any more
-    by false passes any more = more any
-
 -- a copy of the directory after does not go
 stays-not_going : (before after : Dir) (f : Frame) → is_copy_of after.copies f ≡ true →
     list_any (same_frame f) (filter (λ g. not (list_any (same_frame g) after.copies)) before.copies) ≡ false
@@ -94,7 +83,7 @@ stays-not_going before after f stays = by (list_any (same_frame f) (filter leave
         list_any (same_frame f) (filter leaves before.copies) ≡ false
     by false is = is
     by true is =
-        absurd (true≢false (sym stays ∙ not-true (list_any (same_frame f) after.copies) (goes-passes f leaves before.copies is)))
+        absurd (true≢false (sym stays ∙ not-true (list_any (same_frame f) after.copies) (going-is f leaves before.copies is)))
 
 -- ---- the granted translation
 

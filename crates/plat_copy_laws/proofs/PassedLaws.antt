@@ -16,7 +16,8 @@ use Rattle.plat_laws.specs.Guests.{IsWithinLimits}
 use Rattle.plat_events.specs.Places.{entry_count}
 use Rattle.plat_events.specs.Shootdowns.{Shot, Posting, PostingOn, Asking, Interrupting, Watching, AskingAgain, Target, targets, no_target}
 use Rattle.plat_events.specs.Sessions.{Course, decision_of}
-use Rattle.plat_events.specs.Standings.{course_of, is_quiet, unlocking_of, shot_passed, targets_left, removes_by, posts_of, waits_for, has_granted}
+use Rattle.plat_events.specs.Standings.{course_of, is_quiet, unlocking_of, shot_passed, targets_left, removes_by, posts_of, waits_for}
+use Rattle.plat_events.specs.Standings.{has_granted}
 use Rattle.plat_events.specs.Kept.{Running, session_on, private_of}
 use Rattle.plat_events.specs.Views.{session_view, translation_of, view}
 use Rattle.plat_events.specs.Runs.{Fine}
@@ -77,7 +78,8 @@ module _ (m : Machine) (answer : Answer) (s : Fine) (limits : IsWithinLimits m) 
 
     removes : removes_some (removes_by m answer r.actor r.now r.session) ≡ true
     removes =
-        ap (λ ph. removes_some (option_map_or (λ k. (decision_of m answer r.actor r.now r.session k).removed) (course_of ph) removed.Nothing))
+        ap (λ ph. removes_some (option_map_or (λ k. (decision_of m answer r.actor r.now r.session k).removed) (course_of ph)
+        removed.Nothing))
         counts.shoots
         ∙ (ap (λ n. removes_some (decision_of m answer r.actor n r.session c).removed) runs.now ∙ shoots.removes)
 
@@ -93,7 +95,8 @@ module _ (m : Machine) (answer : Answer) (s : Fine) (limits : IsWithinLimits m) 
     passed : waits_for m r.actor r.session e q ≡ false
     passed =
         (λ i. list_any (λ (t : Target). t.entry == e && t.processor == q)
-        (targets_left (targets m r.actor (runs.on i) (option_map_or (λ (k : Course). k.posts) (course_of (counts.shoots i)) [])) (counts.shoots
+        (targets_left (targets m r.actor (runs.on i) (option_map_or (λ (k : Course). k.posts) (course_of (counts.shoots i)) []))
+        (counts.shoots
         i)))
         ∙ subst
         (λ (u : Target). list_any (λ (t : Target). t.entry == u.entry && t.processor == u.processor)

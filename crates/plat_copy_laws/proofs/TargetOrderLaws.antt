@@ -1,8 +1,9 @@
 -- the targets of a shootdown rise, by entry and then by processor, so none stands twice
-use Rattle.std.specs.Prelude.{◌≡◌, ℕ, zero, suc, ◌+◌, ◌<◌, ◌==◌, ◌&&◌, ◌||◌, nat_lt, nat_le, not, Bool, true, false, List, [], ◌∷◌, ◌++◌, map, filter, cond, drop, length, slice_index_or}
+use Rattle.std.specs.Prelude.{◌≡◌, ℕ, zero, suc, ◌+◌, ◌<◌, ◌==◌, ◌&&◌, ◌||◌, nat_lt, nat_le, not, Bool, true, false, List, [], ◌∷◌, ◌++◌}
+use Rattle.std.specs.Prelude.{map, filter, cond, drop, length, slice_index_or}
 use Rattle.std.proofs.Common.{refl, ◌∙◌, arith}
 use Rattle.std.specs.List.{list_any, list_all, range_with_len, zip, flat_map}
-use Rattle.std.proofs.lemmas.Bool.{and_parts}
+use Rattle.std.proofs.lemmas.Bool.{and_parts, and_from}
 use Rattle.std.proofs.lemmas.Bool.Decides.{nat_tests}
 use Rattle.std.proofs.lemmas.List.Folds.{list_all-append}
 use Rattle.plat_base.specs.Machine.{Machine}
@@ -22,16 +23,12 @@ rise (t ∷ ts) = list_all (before t) ts && rise ts
 abbrev is_at : (e q : ℕ) → Target → Bool
 is_at e q t = t.entry == e && t.processor == q
 
-both : (b c : Bool) → b ≡ true → c ≡ true → (b && c) ≡ true
-both true c h k = k
-both false c h k = absurd cc
-
 all-follows : (p q : Target → Bool) → ((t : Target) → p t ≡ true → q t ≡ true) → (ts : List Target) → list_all p ts ≡ true →
     list_all q ts ≡ true
 all-follows p q follows [] all = refl
 all-follows p q follows (t ∷ ts) all =
     let parts = and_parts (p t) (list_all p ts) all in
-    both (q t) (list_all q ts) (follows t parts.0) (all-follows p q follows ts parts.1)
+    and_from (q t) (list_all q ts) (follows t parts.0) (all-follows p q follows ts parts.1)
 
 -- ---- none stands twice
 
@@ -95,10 +92,10 @@ processors-rise e lo (suc n) keep =
         rw same
         (record {
           risen =
-              both (list_all (before first) ts) (rise ts) (all-follows (is_from e (lo + 1)) (before first) behind ts rest.from)
+              and_from (list_all (before first) ts) (rise ts) (all-follows (is_from e (lo + 1)) (before first) behind ts rest.from)
               rest.risen;
           from =
-              both (is_from e lo first) (list_all (is_from e lo) ts) here
+              and_from (is_from e lo first) (list_all (is_from e lo) ts) here
               (all-follows (is_from e (lo + 1)) (is_from e lo) later ts rest.from);
         })
     by false ts qs same rest =
@@ -115,9 +112,9 @@ rise-append e [] ys risen at risen_more from = risen_more
 rise-append e (x ∷ xs) ys risen at risen_more from =
     let parts = and_parts (list_all (before x) xs) (rise xs) risen in
     let places = and_parts (is_from e 0 x) (list_all (is_from e 0) xs) at in
-    both (list_all (before x) (xs ++ ys)) (rise (xs ++ ys))
+    and_from (list_all (before x) (xs ++ ys)) (rise (xs ++ ys))
     (list_all-append (before x) xs ys
-    ∙ both (list_all (before x) xs) (list_all (before x) ys) parts.0
+    ∙ and_from (list_all (before x) xs) (list_all (before x) ys) parts.0
     (all-follows (enters_from (e + 1)) (before x) (λ t h. behind t h places.0) ys from))
     (rise-append e xs ys parts.1 places.1 risen_more from)
   where
@@ -151,7 +148,7 @@ entries-rise m a page lo (suc n) posts =
           risen = rise-append lo (targets_of m a lo k) (all es ns) one.risen one.from more.risen more.from;
           from =
               list_all-append (enters_from lo) (targets_of m a lo k) (all es ns)
-              ∙ both (list_all (enters_from lo) (targets_of m a lo k)) (list_all (enters_from lo) (all es ns))
+              ∙ and_from (list_all (enters_from lo) (targets_of m a lo k)) (list_all (enters_from lo) (all es ns))
               (all-follows (is_from lo 0) (enters_from lo) here (targets_of m a lo k) one.from)
               (all-follows (enters_from (lo + 1)) (enters_from lo) later (all es ns) more.from);
         }

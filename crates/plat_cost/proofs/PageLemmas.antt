@@ -1,7 +1,9 @@
 -- what a placer says of a page is what its lines say, and the sums over the pages
-use Rattle.std.specs.Prelude.{◌≡◌, ℕ, zero, suc, ◌+◌, ◌*◌, ◌<◌, ◌≤◌, ◌==◌, ◌||◌, if◌then◌else◌, Bool, true, false, Option, Result, Ok, Err, List, [], ◌∷◌, ◌++◌, length, take, sum_by, refl}
+use Rattle.std.specs.Prelude.{◌≡◌, ℕ, zero, suc, ◌+◌, ◌*◌, ◌<◌, ◌≤◌, ◌==◌, ◌||◌, if◌then◌else◌, Bool, true, false, Option, Result, Ok, Err}
+use Rattle.std.specs.Prelude.{List, [], ◌∷◌, ◌++◌, length, take, sum_by, refl}
 use Rattle.std.proofs.Common.{ap, sym, ◌∙◌, arith, inl, inr, subst}
 use Rattle.std.proofs.lemmas.List.Sums.{sum_by-append}
+use Rattle.std.proofs.lemmas.Bool.{or_right}
 use Rattle.plat_base.specs.Canon.{Words}
 use Rattle.plat_base.specs.Machine.{Machine}
 use Rattle.plat_base.specs.Pages.{distance, numbers}
@@ -24,6 +26,7 @@ use Rattle.plat_cost.proofs.BestPlanLaws.{best_plan-best}
 use Rattle.plat_cost.proofs.CostLaws.{room_most}
 use Rattle.plat_cost.proofs.DistanceLaws.{distance_most, carry_most}
 use Rattle.plat_cost.proofs.PlanLaws.{best-one}
+use Rattle.plat_io.proofs.Pieces.{HasRisen-later}
 
 -- ---- a line, lines, and a last line
 
@@ -42,14 +45,6 @@ is_part-framed held first between last now =
     is_part_line held first (between ++ last ∷ []) now
     ∙ ap (λ b. is_part held (text (first ∷ [])) now || b) (is_part_lines (added held (text (first ∷ []))) between (last ∷ []) now)
 
-or-right : (a b : Bool) → b ≡ true → (a || b) ≡ true
-or-right true b h = refl
-or-right false b h = h
-
-HasRisen-later : (a b c : ℕ) → a ≤ b → HasRisen b c → HasRisen a c
-HasRisen-later a b c h (inl k) = inl (omega arith)
-HasRisen-later a b c h (inr k) = inr k
-
 pub adds-framed :
     {K E : Type 0} (sink : Ghosts K) (a b c d : K) (r : Result (Unit {0}) E) (first : Words) (between : List Words) (last : Words)
     → AddsLines {E = E} sink a b (Ok (tt {0})) (first ∷ []) → AddsLines {E = E} sink b c (Ok (tt {0})) between
@@ -64,7 +59,7 @@ adds-framed sink a b c d (Ok u) first between last h k l = record {
 }
 adds-framed sink a b c d (Err e) first between last h k l = record {
   whole = tt;
-  part = rw is_part-framed (or-right _ _ (or-right _ _ (rw (k.whole, h.whole) at l.part)));
+  part = rw is_part-framed (or_right _ _ (or_right _ _ (rw (k.whole, h.whole) at l.part)));
   risen = HasRisen-later _ _ _ (omega (arith, h.count, k.count)) l.risen;
   count = omega (arith, h.count, k.count, l.count);
   size = l.size ∙ (k.size ∙ h.size);
@@ -119,7 +114,8 @@ least-most cfg items page few =
 pub sum_by-next :
     (f : ℕ → ℕ) (n page : ℕ) → page < n → sum_by f (take (page + 1) (numbers n)) ≡ sum_by f (take page (numbers n)) + f page
 sum_by-next f n page below =
-    ap (sum_by f) (range_at n page below).1 ∙ sum_by-append f (take page (numbers n)) (page ∷ []) ∙ ap (λ k. sum_by f (take page (numbers n)) + k) last
+    ap (sum_by f) (range_at n page below).1 ∙ sum_by-append f (take page (numbers n)) (page ∷ [])
+    ∙ ap (λ k. sum_by f (take page (numbers n)) + k) last
   where
     last : sum_by f (page ∷ []) ≡ f page
     last = omega arith
@@ -135,7 +131,8 @@ plan_is : (cfg : Config) (actors plan : List ℕ) → IsBestPlan (machine cfg) a
 plan_is cfg actors plan best =
     best-one (machine cfg) actors plan (best_plan (machine cfg) actors) best (best_plan-best (machine cfg) actors (nodes_some cfg))
 
-module _ (cfg : Config) (items : List Item) (page : ℕ) (actors plan : List ℕ) (same : actors ≡ actors_on items page) (best : IsBestPlan (machine cfg) actors plan) where
+module _ (cfg : Config) (items : List Item) (page : ℕ) (actors plan : List ℕ) (same : actors ≡ actors_on items page)
+    (best : IsBestPlan (machine cfg) actors plan) where
   plan_on : plan ≡ best_plan (machine cfg) (actors_on items page)
   plan_on = subst (λ (actors : List ℕ). plan ≡ best_plan (machine cfg) actors) same (plan_is cfg actors plan best)
 
@@ -151,7 +148,8 @@ module _ (cfg : Config) (items : List Item) (page : ℕ) (actors plan : List ℕ
   unfolding page_lines
   page_lines-placed accesses act low moves count is e m =
       rw (count, is, least-placed low e, m)
-      (ap (λ (plan : List ℕ). placed_lines page (length (actors_on items page)) (actual (machine cfg) items page) (least (machine cfg) items page) (moves_of plan) plan) plan_on)
+      (ap (λ (plan : List ℕ). placed_lines page (length (actors_on items page)) (actual (machine cfg) items page)
+      (least (machine cfg) items page) (moves_of plan) plan) plan_on)
 
 -- ---- the length of a plan
 

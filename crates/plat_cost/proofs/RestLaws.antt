@@ -7,7 +7,8 @@ use Rattle.plat_base.specs.Machine.{Machine}
 use Rattle.plat_base.specs.Pages.{distance}
 use Rattle.plat_cost.specs.Plans.{plan_cost, IsBestPlan}
 use Rattle.plat_cost.specs.Certificates.{number_at, IsCertificate}
-use Rattle.plat_cost.specs.Rests.{IsFirstLeast, onward, onward_at, IsTableFrom, IsWalk, IsWalked, IsRowOf, IsKeptFrom, AreLow, AreRisen, IsLowTable}
+use Rattle.plat_cost.specs.Rests.{IsFirstLeast, onward, onward_at, IsTableFrom, IsWalk, IsWalked, IsRowOf, IsKeptFrom, AreLow, AreRisen}
+use Rattle.plat_cost.specs.Rests.{IsLowTable}
 use Rattle.plat_cost.proofs.PlanLaws.{table-below, walk-best, walk-least}
 
 -- ---- the first least number

@@ -52,7 +52,8 @@ change actor x = item.Change (record {
 -- the page moves once to node 1, and node 0 goes to it there
 moved : List Item
 moved =
-    change 0 action.Fill ∷ store 0 0 ∷ change 1 action.Migrate ∷ store 1 1 ∷ change 0 action.MapRemote ∷ store 0 1 ∷ store 1 1 ∷ store 0 1 ∷ []
+    change 0 action.Fill ∷ store 0 0 ∷ change 1 action.Migrate ∷ store 1 1 ∷ change 0 action.MapRemote ∷ store 0 1 ∷ store 1 1 ∷ store 0 1
+    ∷ []
 
 moved_text : cost_text tried moved
     ≡ codes "platinum cost 1\npage 0 accesses 5 actual 6 least 2 moves 0\nfrom 1 at 0\ntotal actual 6 least 2\n"

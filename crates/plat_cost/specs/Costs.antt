@@ -1,5 +1,6 @@
 -- what a page really cost: its accesses, by the distance of the copy that they went to, and the copies that were made of it
-use Rattle.std.specs.Prelude.{◌≡◌, ℕ, ◌*◌, ◌==◌, nat_lt, ◌&&◌, ◌||◌, not, ◌<◌, ◌≤◌, if◌then◌else◌, Bool, true, false, List, length, sum_by, Option, Some, None, All}
+use Rattle.std.specs.Prelude.{◌≡◌, ℕ, ◌*◌, ◌==◌, nat_lt, ◌&&◌, ◌||◌, not, ◌<◌, ◌≤◌, if◌then◌else◌, Bool, true, false, List, length, sum_by}
+use Rattle.std.specs.Prelude.{Option, Some, None, All}
 use Rattle.std.specs.List.{filter_map}
 use Rattle.plat_base.specs.Machine.{Machine}
 use Rattle.plat_base.specs.Pages.{distance}

@@ -82,7 +82,8 @@ fn is_number_below(
     requires rest { length rest.now ≡ length actors.now * cfg.now.nodes }
     requires i { i < length actors.now }
     requires x { x < cfg.now.nodes }
-    ensures { let m = machine cfg.now in IsTrue result ↔ IsNumberBelow m actors.now (number_at m rest.now) i x }
+    ensures { let m = machine cfg.now in
+        IsTrue result ↔ IsNumberBelow m actors.now (number_at m rest.now) i x }
 {
     let nodes = cfg.nodes as usize;
     let number = rest[i * nodes + x as usize];

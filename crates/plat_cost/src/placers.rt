@@ -41,7 +41,13 @@ impl Model for Placer {
 
     ghost Value = { Placements };
 
-    ghost view = { λ it. record { nodes = it.nodes; room = it.room; actors = take it.count it.actors.items; plan = take it.count it.plan.items; rest = take (it.count * it.nodes) it.rest.items } };
+    ghost view = { λ it. record {
+      nodes = it.nodes;
+      room = it.room;
+      actors = take it.count it.actors.items;
+      plan = take it.count it.plan.items;
+      rest = take (it.count * it.nodes) it.rest.items;
+    } };
 
     ghost invariant = { λ it. FitsRoom it.nodes it.room it.count it.actors.items it.plan.items it.rest.items };
 }
@@ -151,7 +157,8 @@ fn place(
     ensures count { result.count ≡ length (actors_on items.now page) }
     ensures actors { take result.count actors.new ≡ actors_on items.now page }
     ensures best { IsBestPlan (machine cfg.now) (actors_on items.now page) (take result.count plan.new) }
-    ensures least { let actors = actors_on items.now page in result.least ≡ plan_cost (machine cfg.now) actors (take result.count plan.new) }
+    ensures least { let actors = actors_on items.now page in
+        result.least ≡ plan_cost (machine cfg.now) actors (take result.count plan.new) }
     ensures moves { result.moves ≡ moves_of (take result.count plan.new) }
     ensures certified { let front = take (result.count * cfg.now.nodes) rest.new
         in IsCertificate (machine cfg.now) (actors_on items.now page) front result.least }

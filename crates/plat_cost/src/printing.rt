@@ -4,7 +4,8 @@ ghost use Rattle.std.specs.List.{flat_map};
 ghost use Rattle.plat_base.specs.Pages.{numbers};
 ghost use Rattle.plat_base.specs.Seen.{machine};
 ghost use Rattle.plat_base.specs.declared.limits.TheConstants.{MOST_ITEMS, MOST_TURNS};
-ghost use Rattle.plat_cost.specs.CostLines.{cost_lines, cost_text, least, page_line, page_lines, place_lines, placed_lines, plan_lines, total_line};
+ghost use Rattle.plat_cost.specs.CostLines.{cost_lines, cost_text, least, page_line, page_lines, place_lines, placed_lines, plan_lines};
+ghost use Rattle.plat_cost.specs.CostLines.{total_line};
 ghost use Rattle.plat_cost.specs.Costs.{actual, CanPlace};
 ghost use Rattle.plat_cost.specs.Placements.{IsFor};
 ghost use Rattle.plat_cost.specs.declared.printing.TheConstants.{MOST_ACTUAL};
@@ -98,9 +99,12 @@ fn write_pages<K: Sink>(
     requires places { CanPlace (machine cfg.now) items.now }
     requires no_actual { totals.old.actual ≡ 0 }
     requires no_least { totals.old.least ≡ 0 }
-    ensures written { AddsLines K.Sink sink.old sink.new result (flat_map (page_lines (machine cfg.now) items.now) (numbers cfg.now.pages)) }
-    ensures actual { OnOk result (totals.new.actual ≡ sum_by (actual (machine cfg.now) items.now) (numbers cfg.now.pages)) }
-    ensures least { OnOk result (totals.new.least ≡ sum_by (least (machine cfg.now) items.now) (numbers cfg.now.pages)) }
+    ensures written { AddsLines K.Sink sink.old sink.new result
+        (flat_map (page_lines (machine cfg.now) items.now) (numbers cfg.now.pages)) }
+    ensures actual { OnOk result (totals.new.actual
+        ≡ sum_by (actual (machine cfg.now) items.now) (numbers cfg.now.pages)) }
+    ensures least { OnOk result (totals.new.least
+        ≡ sum_by (least (machine cfg.now) items.now) (numbers cfg.now.pages)) }
     ensures made { IsFor (machine cfg.now) placer.new }
 {
     for page in 0..cfg.pages {
@@ -124,7 +128,8 @@ fn write_next_page<K: Sink>(
     requires places { CanPlace (machine cfg.now) items.now }
     requires actual_low { totals.old.actual ≤ page * MOST_ACTUAL }
     requires least_low { totals.old.least ≤ page * MOST_REST }
-    ensures written { AddsLines K.Sink sink.old sink.new result (page_lines (machine cfg.now) items.now page) }
+    ensures written { AddsLines K.Sink sink.old sink.new result
+        (page_lines (machine cfg.now) items.now page) }
     ensures actual { totals.new.actual ≡ totals.old.actual + actual (machine cfg.now) items.now page }
     ensures least { totals.new.least ≡ totals.old.least + least (machine cfg.now) items.now page }
     ensures actual_low { totals.new.actual ≤ (page + 1) * MOST_ACTUAL }

@@ -1,49 +1,29 @@
 //! Costs and best plans of pages that were worked out by hand.
-ghost use Rattle.std.specs.Prelude.{◌≡◌, ◌<◌, [], true, All, IfOk, IsTrue, length};
+ghost use Rattle.std.specs.Prelude.{◌≡◌, ◌<◌, true, All, IfOk, IsTrue, length};
 ghost use Rattle.plat_base.specs.Seen.{machine};
 ghost use Rattle.plat_cost.specs.Costs.{actors_on, can_cost, CanCost};
 ghost use Rattle.plat_cost.specs.Tried.{tried};
 
 use crate::{Placed, Placer, check_bound, print_costs};
 use plat_base::{
-    Access, Action, Cause, Change, Config, Copies, Dir, Frame, GuestText, Item, Kind, List,
-    OutOfMemory, Plan, PolicyKind, Removed, State,
+    Access, Action, Cause, Change, Config, Copies, Dir, Frame, Item, Kind, OutOfMemory, PolicyKind,
+    Removed, State,
 };
 use plat_io::QuietSink;
+use plat_samples::{Sizes, idle_nodes};
 use std::alloc::Global;
 use std::test::Fail;
-
-fn guest(alloc: Global) -> GuestText
-    ensures space { result.space ≡ 0 }
-    ensures code { result.code.items ≡ [] }
-    ensures labels { result.labels.items ≡ [] }
-{
-    GuestText {
-        space: 0,
-        code: List::new(alloc),
-        labels: List::new(alloc),
-    }
-}
 
 fn two_nodes(alloc: Global) -> Result<Config, OutOfMemory>
     ensures { IfOk result (λ cfg. machine cfg ≡ tried) }
 {
-    let mut guests = List::with_room(alloc, 2)?;
-    guests.push(guest(alloc));
-    guests.push(guest(alloc));
-    Ok(Config {
+    let sizes = Sizes {
         nodes: 2,
         frames: 2,
-        words: 4,
         pages: 1,
-        policy: PolicyKind::Replicate,
         budget: 8,
-        schedule: Plan::Robin,
-        distances: List::new(alloc),
-        entries: List::new(alloc),
-        inits: List::new(alloc),
-        guests,
-    })
+    };
+    idle_nodes(alloc, sizes, PolicyKind::Replicate, &[], &[])
 }
 
 // An access by `actor` to the copy on `module`.

@@ -1,5 +1,6 @@
 -- a change of a good history that makes a copy is by a processor, and finds a copy there
-use Rattle.std.specs.Prelude.{◌≡◌, ◌≢◌, ℕ, ◌<◌, ◌==◌, nat_lt, ◌&&◌, ◌||◌, not, if◌then◌else◌, Bool, true, false, List, length, Option, Some, None, is_none, is_some}
+use Rattle.std.specs.Prelude.{◌≡◌, ◌≢◌, ℕ, ◌<◌, ◌==◌, nat_lt, ◌&&◌, ◌||◌, not, if◌then◌else◌, Bool, true, false, List, length, Option, Some}
+use Rattle.std.specs.Prelude.{None, is_none, is_some}
 use Rattle.std.proofs.Common.{refl, sym, ap, ◌∙◌, subst, arith}
 use Rattle.std.proofs.lemmas.Bool.{and_parts, true≢false}
 use Rattle.std.proofs.lemmas.Bool.Decides.{nat_tests}
@@ -13,7 +14,8 @@ use Rattle.plat_base.specs.Held.{held, has_right}
 use Rattle.plat_base.specs.Pages.{entry_reached}
 use Rattle.plat_base.specs.Directories.{dir_of, seq_of, last_of}
 use Rattle.plat_base.specs.Decide.{decide, may_decide, is_dir, is_empty, fits_cause}
-use Rattle.plat_base.specs.Rules.{is_chained, is_fault_of, is_fault_change, is_fault_decision, is_thaw_change, is_decided, got_named, next_operation, has_daemon, names_got}
+use Rattle.plat_base.specs.Rules.{is_chained, is_fault_of, is_fault_change, is_fault_decision, is_thaw_change, is_decided, got_named}
+use Rattle.plat_base.specs.Rules.{next_operation, has_daemon, names_got}
 use Rattle.plat_base.specs.declared.frames.Frame.{Frame}
 use Rattle.plat_base.specs.declared.items.Action.{Action}
 use Rattle.plat_base.specs.declared.items.Action.TheVariants as action
@@ -79,7 +81,8 @@ module _ (m : Machine) (answer : Answer) (items : List Item) (c : Change) where
       let is = same_cause-true (cause_of r.kind) c.cause (and_parts front (same_cause (cause_of r.kind) c.cause) all.0).1
       in λ thaw. cause_of-fault r.kind (is ∙ thaw)
 
-  fault_copy : (granted : Option Grant) → is_fault_change m answer items c granted ≡ true → makes_copy c.action ≡ true → 0 < length c.before.copies
+  fault_copy : (granted : Option Grant) → is_fault_change m answer items c granted ≡ true → makes_copy c.action ≡ true →
+      0 < length c.before.copies
   fault_copy None h copies = absurd cc
   fault_copy (Some g) h copies =
       let got = got_named c.action g in
@@ -92,7 +95,8 @@ module _ (m : Machine) (answer : Answer) (items : List Item) (c : Change) where
       in decided_copy c.cause got (fault_cause g (next_operation m items c.actor) both.0) one.0 one.1 copies
 
   -- a change that is chained and makes a copy
-  pub copy_can_cost : is_chained m answer items c ≡ true → makes_copy c.action ≡ true → (nat_lt c.actor m.nodes ≡ true) × (0 < length c.before.copies)
+  pub copy_can_cost : is_chained m answer items c ≡ true → makes_copy c.action ≡ true → (nat_lt c.actor m.nodes ≡ true)
+      × (0 < length c.before.copies)
   copy_can_cost h copies =
       by (nat_lt c.actor m.nodes)
       (and_parts (nat_lt c.page m.pages && c.seq == seq_of items c.page && same_dir c.before (dir_of items c.page)) _ h).1

@@ -1,11 +1,13 @@
 -- a processor of a good history makes no more accesses and switches than its budget has turns
-use Rattle.std.specs.Prelude.{◌≡◌, ℕ, zero, suc, ◌+◌, ◌≤◌, ◌==◌, nat_lt, nat_le, ◌&&◌, ◌||◌, Bool, true, false, List, [], ◌∷◌, ◌++◌, length, Option, Some, None}
+use Rattle.std.specs.Prelude.{◌≡◌, ℕ, zero, suc, ◌+◌, ◌≤◌, ◌==◌, nat_lt, nat_le, ◌&&◌, ◌||◌, Bool, true, false, List, [], ◌∷◌, ◌++◌, length}
+use Rattle.std.specs.Prelude.{Option, Some, None}
 use Rattle.std.proofs.Common.{refl, sym, ◌∙◌, arith}
 use Rattle.std.proofs.lemmas.Bool.{and_parts}
 use Rattle.std.proofs.lemmas.Bool.Decides.{nat_tests}
 use Rattle.std.proofs.lemmas.List.{length-append}
 use Rattle.plat_base.specs.Machine.{Machine}
-use Rattle.plat_base.specs.GuestRun.{GuestRun, Operation, Outcome, GoesOn, HasHalted, HasTrapped, Reach, reach_of, value_for, want_of, with_access, guest_does, guest_more, guest_run}
+use Rattle.plat_base.specs.GuestRun.{GuestRun, Operation, Outcome, GoesOn, HasHalted, HasTrapped, Reach, reach_of, value_for, want_of}
+use Rattle.plat_base.specs.GuestRun.{with_access, guest_does, guest_more, guest_run}
 use Rattle.plat_base.specs.Done.{values_of, operations_of}
 use Rattle.plat_base.specs.Ends.{ended_of}
 use Rattle.plat_base.specs.Rules.{stands, has_made, wants_right, wants_operation, is_end, is_in_order}
@@ -25,11 +27,13 @@ one_more os o = rw length-append (omega arith)
 none_more : (os : List Operation) → length (os ++ []) ≤ length os + 1
 none_more os = rw length-append (omega arith)
 
-with_access-operations : (m : Machine) (q : ℕ) (r : GuestRun) (reach : Reach) (v : Option ℕ) → length (with_access m q r reach v).operations ≤ length r.operations + 1
+with_access-operations : (m : Machine) (q : ℕ) (r : GuestRun) (reach : Reach) (v : Option ℕ) →
+    length (with_access m q r reach v).operations ≤ length r.operations + 1
 with_access-operations m q r reach None = omega arith
 with_access-operations m q r reach (Some v) = one_more r.operations _
 
-guest_does-operations : (m : Machine) (q : ℕ) (vs : List ℕ) (r : GuestRun) (w : Want) → length (guest_does m q vs r w).operations ≤ length r.operations + 1
+guest_does-operations : (m : Machine) (q : ℕ) (vs : List ℕ) (r : GuestRun) (w : Want) →
+    length (guest_does m q vs r w).operations ≤ length r.operations + 1
 guest_does-operations m q vs r want.Local = none_more r.operations
 guest_does-operations m q vs r (want.Access k sp a o) = with_access-operations m q r (reach_of m k sp a o) (value_for k vs r.used)
 guest_does-operations m q vs r (want.Switch s) = one_more r.operations _
@@ -37,7 +41,8 @@ guest_does-operations m q vs r (want.Print v) = none_more r.operations
 guest_does-operations m q vs r want.Halted = omega arith
 guest_does-operations m q vs r want.Trap = omega arith
 
-guest_more-operations : (m : Machine) (q : ℕ) (vs : List ℕ) (r : GuestRun) (o : Outcome) → length (guest_more m q vs r o).operations ≤ length r.operations + 1
+guest_more-operations : (m : Machine) (q : ℕ) (vs : List ℕ) (r : GuestRun) (o : Outcome) →
+    length (guest_more m q vs r o).operations ≤ length r.operations + 1
 guest_more-operations m q vs r GoesOn = guest_does-operations m q vs r (want_of m q r.state)
 guest_more-operations m q vs r HasHalted = omega arith
 guest_more-operations m q vs r HasTrapped = omega arith
@@ -79,7 +84,8 @@ cut_few m items q t a wants h =
 is_end-few : (m : Machine) (items : List Item) (q : ℕ) (e : End) (t : ℕ) → is_end m items q e t ≡ true → length (operations_of q items) ≤ t
 is_end-few m items q end.Halted t h = made_few m items q t (and_parts (stands (guest_run m q (values_of q items) t) t HasHalted) _ h).1
 is_end-few m items q end.Trapped t h = made_few m items q t (and_parts (stands (guest_run m q (values_of q items) t) t HasTrapped) _ h).1
-is_end-few m items q end.Spent t h = made_few m items q t (and_parts (t == m.budget && stands (guest_run m q (values_of q items) t) t GoesOn) _ h).1
+is_end-few m items q end.Spent t h =
+    made_few m items q t (and_parts (t == m.budget && stands (guest_run m q (values_of q items) t) t GoesOn) _ h).1
 is_end-few m items q end.NoFrames zero h = absurd cc
 is_end-few m items q end.NoFrames (suc t) h =
     let r = guest_run m q (values_of q items) t in

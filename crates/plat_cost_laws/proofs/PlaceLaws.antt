@@ -1,5 +1,6 @@
 -- the pages of a good history can be placed
-use Rattle.std.specs.Prelude.{◌≡◌, ◌⊎◌, ℕ, zero, suc, ◌+◌, ◌*◌, ◌<◌, ◌≤◌, ◌==◌, nat_lt, ◌&&◌, ◌||◌, not, if◌then◌else◌, Bool, true, false, List, [], ◌∷◌, ◌++◌, length, Option, Some, None, All}
+use Rattle.std.specs.Prelude.{◌≡◌, ◌⊎◌, ℕ, zero, suc, ◌+◌, ◌*◌, ◌<◌, ◌≤◌, ◌==◌, nat_lt, ◌&&◌, ◌||◌, not, if◌then◌else◌, Bool, true, false}
+use Rattle.std.specs.Prelude.{List, [], ◌∷◌, ◌++◌, length, Option, Some, None, All}
 use Rattle.std.specs.List.{cons_option, filter_map}
 use Rattle.std.proofs.Common.{refl, ap, sym, ◌∙◌, arith, append_assoc}
 use Rattle.std.proofs.lemmas.Bool.{and_parts}
@@ -9,7 +10,8 @@ use Rattle.plat_base.specs.Verdicts.{Answer}
 use Rattle.plat_base.specs.Machine.{Machine}
 use Rattle.plat_base.specs.Decide.{is_frame}
 use Rattle.plat_base.specs.Done.{Accessed, Switched, done_of, operations_of}
-use Rattle.plat_base.specs.Rules.{is_access_next, is_chained, next_operation, bad_rule, bad_at, bad_after, bad_ends, bad_or, first_bad, Good}
+use Rattle.plat_base.specs.Rules.{is_access_next, is_chained, next_operation, bad_rule, bad_at, bad_after, bad_ends, bad_or, first_bad}
+use Rattle.plat_base.specs.Rules.{Good}
 use Rattle.plat_base.specs.declared.endings.Ended.{Ended}
 use Rattle.plat_base.specs.declared.items.Access.{Access}
 use Rattle.plat_base.specs.declared.items.Change.{Change}
@@ -18,13 +20,15 @@ use Rattle.plat_base.specs.declared.items.Item.TheVariants as item
 use Rattle.plat_base.specs.declared.statuses.Rule.{Rule}
 use Rattle.plat_base.specs.declared.statuses.Rule.TheVariants as rule
 use Rattle.plat_base.specs.declared.statuses.Bad.{Bad}
-use Rattle.plat_laws.proofs.AccessLaws.{both_here, access_parts, kept_rule}
+use Rattle.plat_laws.proofs.AccessLaws.{access_parts}
 use Rattle.plat_laws.proofs.HistoryLaws.{one_history}
+use Rattle.plat_laws.proofs.HistoryLaws.{good-items}
 use Rattle.plat_cost.specs.Costs.{actor_on, actors_on, can_cost, makes_copy, CanCost, CanPlace}
 use Rattle.plat_cost.proofs.CostLaws.{actors_few}
 use Rattle.plat_cost_laws.proofs.ChangeCosts.{copy_can_cost}
 use Rattle.plat_cost_laws.proofs.CountLaws.{times, few_each}
 use Rattle.plat_cost_laws.proofs.OperationLaws.{few_operations}
+use Rattle.plat_base.proofs.RuleLemmas.{unless-none, bad_at-none}
 
 -- ---- one item
 
@@ -39,14 +43,15 @@ change_costs false copies actor nodes count h = refl
 change_costs true false actor nodes count h = refl
 change_costs true true actor nodes count h = let both = h refl in let one = both.0 in let some = both.1 in grind (arith, nat_tests)
 
-can_cost-kept : (m : Machine) (answer : Answer) (page : ℕ) (before : List Item) (i : Item) → bad_rule m answer before i ≡ None → can_cost m page i ≡ true
+can_cost-kept : (m : Machine) (answer : Answer) (page : ℕ) (before : List Item) (i : Item) → bad_rule m answer before i ≡ None →
+    can_cost m page i ≡ true
 can_cost-kept m answer page before (item.Access a) kept =
     let order = (access_parts m answer before a kept).0 in
     let both = and_parts (nat_lt a.actor m.nodes && is_frame m a.frame) (is_access_next (next_operation m before a.actor) a) order
     in access_costs (a.page == page) a.actor m.nodes a.frame.module (nat_lt a.frame.number m.frames) both.0
 can_cost-kept m answer page before (item.Change c) kept =
     change_costs (c.page == page) (makes_copy c.action) c.actor m.nodes (length c.before.copies)
-    (copy_can_cost m answer before c (kept_rule (is_chained m answer before c) rule.Chain kept))
+    (copy_can_cost m answer before c (unless-none (is_chained m answer before c) rule.Chain kept))
 can_cost-kept m answer page before (item.Applied x) kept = refl
 can_cost-kept m answer page before (item.Switch s) kept = refl
 
@@ -55,7 +60,7 @@ can_cost_after :
     → bad_after m answer before n items ≡ None → CanCost m page items
 can_cost_after m answer page before n [] h = All-nil (λ i. can_cost m page i ≡ true)
 can_cost_after m answer page before n (i ∷ is) h =
-    let both = both_here n (bad_rule m answer before i) (bad_after m answer (before ++ i ∷ []) (n + 1) is) h
+    let both = bad_at-none n (bad_rule m answer before i) (bad_after m answer (before ++ i ∷ []) (n + 1) is) h
     in All-cons (λ i. can_cost m page i ≡ true) i is (can_cost-kept m answer page before i both.0)
     (can_cost_after m answer page (before ++ i ∷ []) (n + 1) is both.1)
 
@@ -86,17 +91,9 @@ times-operations q page (item.Switch s ∷ is) =
 
 -- ---- the whole
 
-no_bad_item : (a b : Option Bad) → bad_or a b ≡ None → a ≡ None
-no_bad_item None b h = refl
-no_bad_item (Some x) b h = absurd cc
-
 module _ (m : Machine) (answer : Answer) (items : List Item) (ends : List Ended) (good : Good m answer items ends) where
-  items_good : bad_after m answer [] 0 items ≡ None
-  unfolding first_bad
-  items_good = no_bad_item (bad_after m answer [] 0 items) (bad_ends m items ends) good
-
   costs : (page : ℕ) → CanCost m page items
-  costs page = can_cost_after m answer page [] 0 items items_good
+  costs page = can_cost_after m answer page [] 0 items (good-items m answer items ends good)
 
   few : (page : ℕ) → length (actors_on items page) ≤ m.nodes * m.budget
   few page =

@@ -9,5 +9,6 @@ use plat_base::{Config, Ended, Item, Policy};
 /// module of the machine, a copy is made by a processor from one that was there before, and a page has no more accesses
 /// than all processors have turns.
 pub fn good_places<P: Policy>(cfg: &Config, policy: &P, items: &[Item], ends: &[Ended])
-    ensures { Good (machine cfg.now) (P.answer policy.now) items.now ends.now → CanPlace (machine cfg.now) items.now }
+    ensures { Good (machine cfg.now) (P.answer policy.now) items.now ends.now →
+        CanPlace (machine cfg.now) items.now }
 {}

@@ -1,5 +1,6 @@
 -- the daemon between two operations: its next operation, and what is kept by each
-use Rattle.std.proofs.Common.{◌≡◌, ℕ, ◌+◌, ◌-◌, ◌*◌, ◌/◌, ◌<◌, ◌≤◌, Bool, true, false, [], ◌∷◌, ◌++◌, length, refl, sym, ap, ◌∙◌, subst, arith, length-append, get_or, replicate}
+use Rattle.std.proofs.Common.{◌≡◌, ℕ, ◌+◌, ◌-◌, ◌*◌, ◌/◌, ◌<◌, ◌≤◌, Bool, true, false, [], ◌∷◌, ◌++◌, length, refl, sym, ap, ◌∙◌, subst}
+use Rattle.std.proofs.Common.{arith, length-append, get_or, replicate}
 use Rattle.std.specs.Prelude.{◌==◌, nat_lt, if◌then◌else◌, Option, Some, None, IfSome, IsSome, IsTrue, slice_index, unwrap_or}
 use Rattle.std.specs.Option.{option_map, option_to_list}
 use Rattle.std.proofs.lemmas.Bool.{cond-true, cond-false}
@@ -20,7 +21,8 @@ use Rattle.plat_laws.specs.Guests.{IsWithinLimits}
 use Rattle.plat_laws.proofs.Limits.{nodes-most, budget-most, platinum-limits}
 use Rattle.plat_words.proofs.PlacesApart.{place_of-below}
 use Rattle.plat_events.specs.Places.{is_word, place_of, word_count}
-use Rattle.plat_events.specs.Privates.{Place, LiveLooking, TimeLooking, Over, Locking, InSession, Private, actor_count, first_place, first_private, period}
+use Rattle.plat_events.specs.Privates.{Place, LiveLooking, TimeLooking, Over, Locking, InSession, Private, actor_count, first_place}
+use Rattle.plat_events.specs.Privates.{first_private, period}
 use Rattle.plat_events.specs.Events.{at, next_of, pass_begun, placed, thaw_of}
 use Rattle.plat_events.specs.Shown.{IsReachedAlone}
 use Rattle.plat_local_laws.specs.Words.{NamesWord}
@@ -74,9 +76,6 @@ period-limits m h k = period_by m m.policy h refl k
 ticks-most : (n b : ℕ) → n ≤ 8 → b ≤ 65536 → n * b ≤ 524288
 ticks-most n b h k = grind arith
 
-pub time-most : (m : Machine) → IsWithinLimits m → m.nodes * m.budget ≤ 524288
-time-most m h = ticks-most m.nodes m.budget (nodes-most m h) (budget-most m h)
-
 -- the time of the next pass is a number of 32 bits
 pub due-most : (now t : ℕ) → now ≤ 524288 → t ≤ 1000000 → (now / t + 1) * t < 4294967296
 due-most now t h k =
@@ -100,7 +99,7 @@ next_at-named m x place w at e n p =
     some_next : ℕ → Op → Option (ℕ × Op)
     some_next k op = Some (k, op)
 
-within-by :
+pub within-by :
     (m : Machine) (o : Option (WordName × Op)) (r : ℕ × Op) → NamesWord m o → option_map (placed m) o ≡ Some r → r.0 < word_count m
 within-by m None r h e = absurd cc
 within-by m (Some w) r h e =

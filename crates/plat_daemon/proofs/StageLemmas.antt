@@ -1,5 +1,6 @@
 -- where an operation of a page's handler leads: to the handler's next operation, or behind the page
-use Rattle.std.proofs.Common.{◌≡◌, ◌⊎◌, inl, inr, ℕ, zero, suc, ◌+◌, Bool, true, false, List, [], ◌∷◌, ◌++◌, replicate, refl, sym, ap, ◌∙◌, subst, arith}
+use Rattle.std.proofs.Common.{◌≡◌, ◌⊎◌, inl, inr, ℕ, zero, suc, ◌+◌, Bool, true, false, List, [], ◌∷◌, ◌++◌, replicate, refl, sym, ap, ◌∙◌}
+use Rattle.std.proofs.Common.{subst, arith}
 use Rattle.std.specs.Prelude.{◌*◌, ◌/◌, ◌==◌, nat_lt, if◌then◌else◌, Option, Some, None, IsSome, slice_set, slice_index_or, unwrap_or}
 use Rattle.std.proofs.lemmas.Bool.{cond_both, cond-true}
 use Rattle.std.proofs.lemmas.Bool.Decides.{nat_tests}
@@ -15,15 +16,19 @@ use Rattle.plat_base.specs.declared.words.Op.{Op}
 use Rattle.plat_base.specs.declared.words.WordName.{WordName}
 use Rattle.plat_events.specs.Words.{is_locked, has_references, has_message}
 use Rattle.plat_events.specs.Places.{entry_count}
-use Rattle.plat_events.specs.Shootdowns.{Shot, Posting, PostingOn, Asking, Interrupting, Watching, AskingAgain, Shoot, Makes, Polls, Done, targets, target_at, ask_from, shoot_from, mask_found, is_active_in, shot_after, own_post}
-use Rattle.plat_events.specs.Sessions.{Fault, Course, Phase, Stamping, Seeking, Taking, Returning, Shooting, Filling, Reading, Copying, Giving, Storing, Granting, Unlocking, Session, decision_of, change_made}
+use Rattle.plat_events.specs.Shootdowns.{Shot, Posting, PostingOn, Asking, Interrupting, Watching, AskingAgain, Shoot, Makes, Polls, Done}
+use Rattle.plat_events.specs.Shootdowns.{targets, target_at, ask_from, shoot_from, mask_found, is_active_in, shot_after, own_post}
+use Rattle.plat_events.specs.Sessions.{Fault, Course, Phase, Stamping, Seeking, Taking, Returning, Shooting, Filling, Reading, Copying}
+use Rattle.plat_events.specs.Sessions.{Giving, Storing, Granting, Unlocking, Session, decision_of, change_made}
 use Rattle.plat_events.specs.Privates.{Relock, Place, Polling, Locking, InSession, LiveLooking, Private, period}
-use Rattle.plat_events.specs.Events.{at, named_next, moved_at, item_at, with_item, is_followed, thaw_of, page_done, drop_own, shoot_place, returned, unlocked, session_moved, session_item}
+use Rattle.plat_events.specs.Events.{at, named_next, moved_at, item_at, with_item, is_followed, thaw_of, page_done, drop_own, shoot_place}
+use Rattle.plat_events.specs.Events.{returned, unlocked, session_moved, session_item}
 use Rattle.plat_local_laws.proofs.AloneLaws.{after-followed, after-passed}
-use Rattle.plat_handler.specs.Stages.{Stage, Locks, Relocks, Runs, Rewaits, Returned, Changed, place_in, stage_next, stage_locked, stage_shot, stage_run, stage_after, session_begun, session_after}
+use Rattle.plat_handler.specs.Stages.{Stage, Locks, Relocks, Runs, Rewaits, Returned, Changed, place_in, stage_next, stage_locked}
+use Rattle.plat_handler.specs.Stages.{stage_shot, stage_run, stage_after, session_begun, session_after}
 use Rattle.plat_handler.specs.Phases.{answer_of}
 use Rattle.plat_handler.specs.Fits.{PhaseFits, StageFits}
-use Rattle.plat_handler.specs.HandlerSeen.{HandlerSeen, ask_of, asked, is_polling, stage_told}
+use Rattle.plat_handler.specs.HandlerSeen.{HandlerSeen, ask_of, asked, is_polling, is_word_asked, stage_told}
 use Rattle.plat_handler.specs.declared.asks.Ask.{Ask}
 use Rattle.plat_handler.specs.declared.asks.Ask.TheVariants as ask
 use Rattle.plat_daemon.specs.DaemonSeen.{DaemonSeen, state_of}
@@ -309,8 +314,10 @@ told-asks m x h k n what at e a t w =
 
 -- the daemon is never asked for a poll, nor has its page a grant or no frame
 pub not_asked :
-    (m : Machine) (x : DaemonSeen) (q : Private) (stage : Stage) (what : Ask) → AskLeads m x q stage what →
-    (what ≡ ask.Poll) ⊎ (((change : Change) × (what ≡ ask.Granted change)) ⊎ (what ≡ ask.NoFrames)) → ⊥
-not_asked m x q stage what h (inl e) = subst (AskLeads m x q stage) e h
-not_asked m x q stage what h (inr (inl e)) = subst (AskLeads m x q stage) e.1 h
-not_asked m x q stage what h (inr (inr e)) = subst (AskLeads m x q stage) e h
+    (m : Machine) (x : DaemonSeen) (q : Private) (stage : Stage) (what : Ask) → AskLeads m x q stage what → is_word_asked what ≡ false →
+    ((k : ℕ) × (o : Op) × (what ≡ ask.Word k o)) ⊎ ((what ≡ ask.Poll) ⊎ (((change : Change) × (what ≡ ask.Granted change))
+    ⊎ (what ≡ ask.NoFrames))) → ⊥
+not_asked m x q stage what h n (inl e) = let k = sym n ∙ ap is_word_asked e.2 in cc
+not_asked m x q stage what h n (inr (inl e)) = subst (AskLeads m x q stage) e h
+not_asked m x q stage what h n (inr (inr (inl e))) = subst (AskLeads m x q stage) e.1 h
+not_asked m x q stage what h n (inr (inr (inr e))) = subst (AskLeads m x q stage) e h

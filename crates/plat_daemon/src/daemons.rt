@@ -1,5 +1,6 @@
 //! The daemon.
-ghost use Rattle.std.specs.Prelude.{◌≡◌, ◌==◌, if◌then◌else◌, ◌*◌, ◌<◌, ◌≤◌, ◌++◌, ◌∷◌, [], length, false, not, IsTrue, IsSome, IfOk, IfSome, Some, None};
+ghost use Rattle.std.specs.Prelude.{◌≡◌, ◌==◌, if◌then◌else◌, ◌*◌, ◌<◌, ◌≤◌, ◌++◌, ◌∷◌, [], length, false, not, IsTrue, IsSome, IfOk};
+ghost use Rattle.std.specs.Prelude.{IfSome, Some, None};
 ghost use Rattle.plat_base.specs.Rules.{has_daemon};
 ghost use Rattle.plat_base.specs.Seen.{machine};
 ghost use Rattle.plat_base.specs.declared.items.Item.TheVariants as item;
@@ -269,14 +270,16 @@ impl Daemon {
             unreachable!()
         };
         handler.after(cfg, found);
+        if handler.asks_word() {
+            return;
+        }
         match handler.next(cfg) {
-            Ask::Word { .. } => {}
             Ask::Thawed(change) => {
                 self.note(change);
                 self.page_done(cfg);
             }
             Ask::NotFrozen => self.page_done(cfg),
-            Ask::Poll | Ask::Granted(_) | Ask::NoFrames => unreachable!(),
+            Ask::Word { .. } | Ask::Poll | Ask::Granted(_) | Ask::NoFrames => unreachable!(),
         }
     }
 

@@ -1,51 +1,32 @@
 //! Passes of the daemon, operation by operation. What they find and make stands in a run that this program did not make.
 ghost use Rattle.std.specs.Prelude.{◌≡◌, IfOk, length};
-ghost use Rattle.plat_base.specs.Machine.{program_seen};
 ghost use Rattle.plat_base.specs.Seen.{machine};
 ghost use Rattle.plat_events.specs.Places.{word_count};
 ghost use Rattle.plat_daemon.specs.Fits.{Fits};
-ghost use Rattle.plat_daemon.specs.Tried.{idle, six_entries, three_nodes};
+ghost use Rattle.plat_daemon.specs.Tried.{six_entries, three_nodes};
 
 use super::*;
 use plat_base::{
-    Action, Cause, Change, Config, Copies, Dir, Entry, Frame, GuestText, Item, List, Op,
-    OutOfMemory, Plan, PolicyKind, Removed, State,
+    Action, Cause, Change, Config, Copies, Dir, Entries, Frame, Item, List, Op, OutOfMemory, Plan,
+    PolicyKind, Removed, State,
 };
 use plat_ports::{Made, RecordPort, WordPort};
+use plat_samples::{entry, idle_guests, listed};
 use std::alloc::Global;
 use std::test::Fail;
 
-fn guest(alloc: Global) -> GuestText
-    ensures { program_seen result ≡ idle }
+fn entries(alloc: Global) -> Result<Entries, OutOfMemory>
+    ensures { IfOk result (λ entries. entries.items ≡ six_entries) }
 {
-    GuestText {
-        space: 0,
-        code: List::new(alloc),
-        labels: List::new(alloc),
-    }
-}
-
-fn entry(vpage: u32, page: u32) -> Entry
-    ensures { result ≡ record { space = 0; vpage = vpage; page = page } }
-{
-    Entry {
-        space: 0,
-        vpage,
-        page,
-    }
-}
-
-fn entries(alloc: Global) -> Result<List<Entry>, OutOfMemory>
-    ensures { IfOk result (λ list. list.items ≡ six_entries) }
-{
-    let mut entries = List::with_room(alloc, 6)?;
-    entries.push(entry(2, 2));
-    entries.push(entry(9, 2));
-    entries.push(entry(4, 0));
-    entries.push(entry(0, 1));
-    entries.push(entry(63, 0));
-    entries.push(entry(1, 2));
-    Ok(entries)
+    let six = [
+        entry(2, 2),
+        entry(9, 2),
+        entry(4, 0),
+        entry(0, 1),
+        entry(63, 0),
+        entry(1, 2),
+    ];
+    Entries::new(alloc, listed(alloc, &six)?)
 }
 
 /// The active spaces stand at 2, 3 and 4, the interrupts from 5 on, the directories at 8, 9 and 10, the stamps from 11 on, and
@@ -54,10 +35,7 @@ fn three_nodes(alloc: Global) -> Result<Config, OutOfMemory>
     ensures { IfOk result (λ cfg. machine cfg ≡ three_nodes) }
 {
     let entries = entries(alloc)?;
-    let mut guests = List::with_room(alloc, 3)?;
-    guests.push(guest(alloc));
-    guests.push(guest(alloc));
-    guests.push(guest(alloc));
+    let guests = idle_guests(alloc, 3)?;
     Ok(Config {
         nodes: 3,
         frames: 3,

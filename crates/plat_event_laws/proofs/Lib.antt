@@ -1,4 +1,3 @@
-pub mod ChoiceLaws
 pub mod EventLaws
 pub mod LiveLaws
 pub mod RunLaws

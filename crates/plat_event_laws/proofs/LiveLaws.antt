@@ -1,10 +1,11 @@
 -- live actors: those that a schedule may choose are those with a next event, and in states with the invariant the processors
 -- among them are those whose end is cut
-use Rattle.std.specs.Prelude.{◌≡◌, ℕ, zero, suc, ◌<◌, ◌||◌, not, Bool, true, false, List, [], ◌∷◌, map, filter, length, take, Option, Some, None, slice_get}
+use Rattle.std.specs.Prelude.{◌≡◌, ℕ, zero, suc, ◌<◌, ◌||◌, not, Bool, true, false, List, [], ◌∷◌, map, filter, length, take, Option, Some}
+use Rattle.std.specs.Prelude.{None, slice_get}
 use Rattle.std.proofs.Common.{refl, ap, sym, ◌∙◌, arith}
 use Rattle.std.specs.Option.{option_map, option_map_or}
 use Rattle.std.specs.List.{list_any}
-use Rattle.std.proofs.lemmas.Bool.{true≢false}
+use Rattle.std.proofs.lemmas.Bool.{true≢false, not-true}
 use Rattle.std.proofs.lemmas.Bool.Decides.{nat_tests}
 use Rattle.std.proofs.lemmas.Option.{slice_get_within}
 use Rattle.plat_base.specs.Verdicts.{Answer}
@@ -16,13 +17,14 @@ use Rattle.plat_base.specs.declared.endings.End.TheVariants as end
 use Rattle.plat_base.specs.declared.endings.Ended.{Ended}
 use Rattle.plat_base.specs.declared.words.Op.{Op}
 use Rattle.plat_base.specs.declared.words.WordName.{WordName}
-use Rattle.plat_events.specs.Privates.{Place, Polling, Looking, Applying, Ticking, Switching, Loading, Expecting, Exchanging, Locking, InSession, Leaving, Lessening, Gone, LiveLooking, TimeLooking, Over, Private, is_over}
+use Rattle.plat_events.specs.Privates.{Place, Polling, Looking, Applying, Ticking, Switching, Loading, Expecting, Exchanging, Locking}
+use Rattle.plat_events.specs.Privates.{InSession, Leaving, Lessening, Gone, LiveLooking, TimeLooking, Over, Private, is_over}
 use Rattle.plat_events.specs.Events.{named_next, placed, next_of}
 use Rattle.plat_events.specs.Runs.{Fine, IsLive, end_at, ended_by, live_actors}
 use Rattle.plat_events.specs.Shown.{goes_to}
 use Rattle.plat_local_laws.specs.Standing.{PlaceOk, EndingOk}
 use Rattle.plat_fine_laws.proofs.ViewFactLaws.{among-range}
-use Rattle.plat_event_laws.proofs.ChoiceLaws.{among}
+use Rattle.plat_base.proofs.ChoiceLemmas.{among, filter-among}
 
 -- ---- an actor has a next operation until it is over
 
@@ -69,10 +71,6 @@ mapped-some f (Some x) y h = (x, refl)
 
 -- ---- the list that a schedule chooses from
 
-filter-among : (test : ℕ → Bool) (xs : List ℕ) (a : ℕ) → among a (filter test xs) ≡ true → test a ≡ true
-filter-among test [] a h = absurd cc
-filter-among test (x ∷ xs) a h = grind (arith, nat_tests, filter-among test xs a)
-
 abbrev goes_on : List Private → ℕ → Bool
 goes_on privates a = option_map_or (λ (p : Private). not (is_over p.place)) (slice_get privates a) false
 
@@ -96,11 +94,7 @@ module _ (m : Machine) (answer : Answer) (s : Fine) (a : ℕ) where
       by : (o : Option Private) → slice_get s.privates a ≡ o →
           option_map_or (λ (p : Private). not (is_over p.place)) o false ≡ true → IsLive m answer s a
       by None here goes = absurd cc
-      by (Some p) here goes = live-private p here (not-over (is_over p.place) goes)
-        where
-          not-over : (b : Bool) → not b ≡ true → b ≡ false
-          not-over true e = absurd cc
-          not-over false e = refl
+      by (Some p) here goes = live-private p here (not-true (is_over p.place) goes)
 
   -- one that is live may be chosen
   pub live-among : IsLive m answer s a → among a (live_actors s.privates) ≡ true

@@ -1,5 +1,6 @@
 -- the simulated run is one of the runs of live actors, within its limit of events
-use Rattle.std.specs.Prelude.{◌≡◌, ℕ, zero, suc, ◌+◌, ◌<◌, ◌≤◌, ◌==◌, ◌&&◌, if◌then◌else◌, Bool, true, false, List, [], ◌∷◌, ◌++◌, length, Option, Some, None}
+use Rattle.std.specs.Prelude.{◌≡◌, ℕ, zero, suc, ◌+◌, ◌<◌, ◌≤◌, ◌==◌, ◌&&◌, if◌then◌else◌, Bool, true, false, List, [], ◌∷◌, ◌++◌, length}
+use Rattle.std.specs.Prelude.{Option, Some, None}
 use Rattle.std.proofs.Common.{refl, ap, sym, ◌∙◌, ◌⊎◌, inl, inr, arith, subst}
 use Rattle.std.proofs.lemmas.Bool.{eq-eqb, true≢false}
 use Rattle.std.proofs.lemmas.List.{length-append}
@@ -16,12 +17,13 @@ use Rattle.plat_base.specs.declared.statuses.Status.TheVariants as status
 use Rattle.plat_laws.specs.Guests.{IsWithinLimits}
 use Rattle.plat_events.specs.Privates.{Private, actor_count, first_private}
 use Rattle.plat_events.specs.Kept.{private_of}
-use Rattle.plat_events.specs.Runs.{Fine, fine_start, event, run_from, run, ends_of, IsLive, AllLive, live_actors, ScheduledFine, with_chosen, scheduled_events, most_events, fine_run}
+use Rattle.plat_events.specs.Runs.{Fine, fine_start, event, run_from, run, ends_of, IsLive, AllLive, live_actors, ScheduledFine}
+use Rattle.plat_events.specs.Runs.{with_chosen, scheduled_events, most_events, fine_run}
 use Rattle.plat_events.specs.Shown.{goes_to, Shows}
 use Rattle.plat_local_laws.specs.Standing.{PlaceOk}
 use Rattle.plat_fine_laws.proofs.AloneLaws.{alone_ok}
 use Rattle.plat_event_laws.specs.Scheduled.{IsRunWithin}
-use Rattle.plat_event_laws.proofs.ChoiceLaws.{choose-among, choose-none, choose-nobody}
+use Rattle.plat_base.proofs.ChoiceLemmas.{choose-among, choose-none, choose-nobody}
 use Rattle.plat_event_laws.proofs.LiveLaws.{among-live, none-live, live-private, ends-so, cut-goes_on, starved-goes_to}
 use Rattle.plat_event_laws.proofs.RunLaws.{run-shows}
 

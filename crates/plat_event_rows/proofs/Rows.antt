@@ -178,7 +178,8 @@ smallest_actors =
 
 abbrev smallest_items : List Item
 smallest_items =
-    change 0 0 0 2 cause.Write action.Fill removed.Nothing (directory state.Empty false []) (directory state.Modified false (frame 0 0 ∷ [])) (granted 0 0 0 right.Write)
+    change 0 0 0 2 cause.Write action.Fill removed.Nothing (directory state.Empty false [])
+    (directory state.Modified false (frame 0 0 ∷ [])) (granted 0 0 0 right.Write)
     ∷ access 0 kind.Store 0 0 0 0 0 5 1 0 0 0
     ∷ access 0 kind.Load 0 0 0 0 5 5 1 0 0 0
     ∷ []
@@ -226,11 +227,15 @@ one_by_one = record {
   pages = 2;
   policy = policy.Replicate;
   budget = 100;
-  schedule = listed (0 ∷ 0 ∷ 0 ∷ 0 ∷ 0 ∷ 0 ∷ 0 ∷ 0 ∷ 0 ∷ 0 ∷ 0 ∷ 0 ∷ 0 ∷ 0 ∷ 0 ∷ 0 ∷ 0 ∷ 0 ∷ 0 ∷ 0 ∷ 0 ∷ 0 ∷ 0 ∷ 0 ∷ 0 ∷ 0 ∷ 0 ∷ 0 ∷ 0 ∷ 0 ∷ 0 ∷ 0 ∷ 0 ∷ 0 ∷ 0 ∷ 0 ∷ 0 ∷ 0 ∷ 0 ∷ 0 ∷ 0 ∷ 0 ∷ 0 ∷ 0 ∷ 0 ∷ 0 ∷ 0 ∷ 0 ∷ 0 ∷ 0 ∷ 0 ∷ 0 ∷ 0 ∷ 0 ∷ 0 ∷ 0 ∷ 0 ∷ 0 ∷ 0 ∷ 0 ∷ 0 ∷ 0 ∷ 0 ∷ 0 ∷ []);
+  schedule = listed (0 ∷ 0 ∷ 0 ∷ 0 ∷ 0 ∷ 0 ∷ 0 ∷ 0 ∷ 0 ∷ 0 ∷ 0 ∷ 0 ∷ 0 ∷ 0 ∷ 0 ∷ 0 ∷ 0 ∷ 0 ∷ 0 ∷ 0 ∷ 0 ∷ 0 ∷ 0 ∷ 0 ∷ 0 ∷ 0 ∷ 0 ∷ 0 ∷ 0 ∷ 0
+      ∷ 0 ∷ 0 ∷ 0 ∷ 0 ∷ 0 ∷ 0 ∷ 0 ∷ 0 ∷ 0 ∷ 0 ∷ 0 ∷ 0 ∷ 0 ∷ 0 ∷ 0 ∷ 0 ∷ 0 ∷ 0 ∷ 0 ∷ 0 ∷ 0 ∷ 0 ∷ 0 ∷ 0 ∷ 0 ∷ 0 ∷ 0 ∷ 0 ∷ 0 ∷ 0 ∷ 0 ∷ 0 ∷ 0
+      ∷ 0
+      ∷ []);
   distances = [];
   entries = entry 0 0 0 ∷ entry 0 1 1 ∷ [];
   inits = [];
-  guests = program 0 (instr.Set 1 1 ∷ instr.Store 1 0 None ∷ instr.Load 2 4 None ∷ instr.Print 2 ∷ instr.Halt ∷ []) [] ∷ program 0 (instr.Set 1 1 ∷ instr.Store 1 4 None ∷ instr.Load 2 0 None ∷ instr.Print 2 ∷ instr.Halt ∷ []) [] ∷ [];
+  guests = program 0 (instr.Set 1 1 ∷ instr.Store 1 0 None ∷ instr.Load 2 4 None ∷ instr.Print 2 ∷ instr.Halt ∷ []) []
+      ∷ program 0 (instr.Set 1 1 ∷ instr.Store 1 4 None ∷ instr.Load 2 0 None ∷ instr.Print 2 ∷ instr.Halt ∷ []) [] ∷ [];
 }
 
 abbrev one_by_one_actors : List ℕ
@@ -241,13 +246,17 @@ one_by_one_actors =
 
 abbrev one_by_one_items : List Item
 one_by_one_items =
-    change 0 0 0 2 cause.Write action.Fill removed.Nothing (directory state.Empty false []) (directory state.Modified false (frame 0 0 ∷ [])) (granted 0 0 0 right.Write)
+    change 0 0 0 2 cause.Write action.Fill removed.Nothing (directory state.Empty false [])
+    (directory state.Modified false (frame 0 0 ∷ [])) (granted 0 0 0 right.Write)
     ∷ access 0 kind.Store 0 0 0 0 0 1 1 0 0 0
-    ∷ change 0 1 0 3 cause.Read action.Fill removed.Nothing (directory state.Empty false []) (directory state.Present1 false (frame 0 1 ∷ [])) (granted 1 0 1 right.Read)
+    ∷ change 0 1 0 3 cause.Read action.Fill removed.Nothing (directory state.Empty false [])
+    (directory state.Present1 false (frame 0 1 ∷ [])) (granted 1 0 1 right.Read)
     ∷ access 0 kind.Load 0 4 1 0 0 0 0 0 1 0
-    ∷ change 1 1 1 7 cause.Write action.Migrate removed.All (directory state.Present1 false (frame 0 1 ∷ [])) (directory state.Modified false (frame 1 0 ∷ [])) (granted 1 1 0 right.Write)
+    ∷ change 1 1 1 7 cause.Write action.Migrate removed.All (directory state.Present1 false (frame 0 1 ∷ []))
+    (directory state.Modified false (frame 1 0 ∷ [])) (granted 1 1 0 right.Write)
     ∷ access 1 kind.Store 0 4 1 0 0 1 1 1 0 1
-    ∷ change 1 0 1 8 cause.Read action.Replicate removed.Writes (directory state.Modified false (frame 0 0 ∷ [])) (directory state.PresentPlus false (frame 0 0 ∷ frame 1 1 ∷ [])) (granted 0 1 1 right.Read)
+    ∷ change 1 0 1 8 cause.Read action.Replicate removed.Writes (directory state.Modified false (frame 0 0 ∷ []))
+    (directory state.PresentPlus false (frame 0 0 ∷ frame 1 1 ∷ [])) (granted 0 1 1 right.Read)
     ∷ access 1 kind.Load 0 0 0 0 1 1 1 1 1 1
     ∷ []
 
@@ -269,11 +278,13 @@ one_by_one-words : (run one_by_one (policy_answer one_by_one.policy) one_by_one_
 unfolding run next_of item_of after dir_word copies_read mask_word lowest_free
 one_by_one-words = refl
 
-one_by_one-ends : ends_of one_by_one (run one_by_one (policy_answer one_by_one.policy) one_by_one_actors).privates ≡ ended end.Halted 5 ∷ ended end.Halted 5 ∷ []
+one_by_one-ends : ends_of one_by_one (run one_by_one (policy_answer one_by_one.policy) one_by_one_actors).privates
+    ≡ ended end.Halted 5 ∷ ended end.Halted 5 ∷ []
 unfolding run next_of item_of after dir_word copies_read mask_word lowest_free
 one_by_one-ends = refl
 
-one_by_one-good : first_bad one_by_one (policy_answer one_by_one.policy) one_by_one_items (ended end.Halted 5 ∷ ended end.Halted 5 ∷ []) ≡ None
+one_by_one-good : first_bad one_by_one (policy_answer one_by_one.policy) one_by_one_items (ended end.Halted 5 ∷ ended end.Halted 5 ∷ [])
+    ≡ None
 unfolding first_bad
 one_by_one-good = refl
 
@@ -300,7 +311,8 @@ crossing = record {
   distances = [];
   entries = entry 0 0 0 ∷ entry 0 1 1 ∷ [];
   inits = [];
-  guests = program 0 (instr.Set 1 1 ∷ instr.Store 1 0 None ∷ instr.Load 2 4 None ∷ instr.Print 2 ∷ instr.Halt ∷ []) [] ∷ program 0 (instr.Set 1 1 ∷ instr.Store 1 4 None ∷ instr.Load 2 0 None ∷ instr.Print 2 ∷ instr.Halt ∷ []) [] ∷ [];
+  guests = program 0 (instr.Set 1 1 ∷ instr.Store 1 0 None ∷ instr.Load 2 4 None ∷ instr.Print 2 ∷ instr.Halt ∷ []) []
+      ∷ program 0 (instr.Set 1 1 ∷ instr.Store 1 4 None ∷ instr.Load 2 0 None ∷ instr.Print 2 ∷ instr.Halt ∷ []) [] ∷ [];
 }
 
 abbrev crossing_actors : List ℕ
@@ -312,14 +324,18 @@ crossing_actors =
 
 abbrev crossing_items : List Item
 crossing_items =
-    change 0 0 0 3 cause.Write action.Fill removed.Nothing (directory state.Empty false []) (directory state.Modified false (frame 0 0 ∷ [])) (granted 0 0 0 right.Write)
-    ∷ change 1 1 0 4 cause.Write action.Fill removed.Nothing (directory state.Empty false []) (directory state.Modified false (frame 1 0 ∷ [])) (granted 1 1 0 right.Write)
+    change 0 0 0 3 cause.Write action.Fill removed.Nothing (directory state.Empty false [])
+    (directory state.Modified false (frame 0 0 ∷ [])) (granted 0 0 0 right.Write)
+    ∷ change 1 1 0 4 cause.Write action.Fill removed.Nothing (directory state.Empty false [])
+    (directory state.Modified false (frame 1 0 ∷ [])) (granted 1 1 0 right.Write)
     ∷ access 0 kind.Store 0 0 0 0 0 1 1 0 0 0
     ∷ access 1 kind.Store 0 4 1 0 0 1 1 1 0 0
     ∷ applied 0 0 message.Restrict moment.Interrupt
     ∷ applied 1 1 message.Restrict moment.Interrupt
-    ∷ change 0 1 1 5 cause.Read action.Replicate removed.Writes (directory state.Modified false (frame 1 0 ∷ [])) (directory state.PresentPlus false (frame 0 1 ∷ frame 1 0 ∷ [])) (granted 1 0 1 right.Read)
-    ∷ change 1 0 1 6 cause.Read action.Replicate removed.Writes (directory state.Modified false (frame 0 0 ∷ [])) (directory state.PresentPlus false (frame 0 0 ∷ frame 1 1 ∷ [])) (granted 0 1 1 right.Read)
+    ∷ change 0 1 1 5 cause.Read action.Replicate removed.Writes (directory state.Modified false (frame 1 0 ∷ []))
+    (directory state.PresentPlus false (frame 0 1 ∷ frame 1 0 ∷ [])) (granted 1 0 1 right.Read)
+    ∷ change 1 0 1 6 cause.Read action.Replicate removed.Writes (directory state.Modified false (frame 0 0 ∷ []))
+    (directory state.PresentPlus false (frame 0 0 ∷ frame 1 1 ∷ [])) (granted 0 1 1 right.Read)
     ∷ access 0 kind.Load 0 4 1 0 1 1 1 0 1 1
     ∷ access 1 kind.Load 0 0 0 0 1 1 1 1 1 1
     ∷ []
@@ -342,7 +358,8 @@ crossing-words : (run crossing (policy_answer crossing.policy) crossing_actors).
 unfolding run next_of item_of after dir_word copies_read mask_word lowest_free
 crossing-words = refl
 
-crossing-ends : ends_of crossing (run crossing (policy_answer crossing.policy) crossing_actors).privates ≡ ended end.Halted 5 ∷ ended end.Halted 5 ∷ []
+crossing-ends : ends_of crossing (run crossing (policy_answer crossing.policy) crossing_actors).privates
+    ≡ ended end.Halted 5 ∷ ended end.Halted 5 ∷ []
 unfolding run next_of item_of after dir_word copies_read mask_word lowest_free
 crossing-ends = refl
 

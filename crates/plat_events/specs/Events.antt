@@ -1,6 +1,7 @@
 -- one event: the one operation on one word that an actor's place names, and the actor's new private state and item from the
 -- word that the operation found
-use Rattle.std.specs.Prelude.{ℕ, ◌+◌, ◌*◌, ◌/◌, ◌^◌, ◌==◌, nat_lt, ◌&&◌, ◌||◌, not, if◌then◌else◌, Bool, true, false, List, [], ◌∷◌, ◌++◌, map, Option, Some, None, slice_set}
+use Rattle.std.specs.Prelude.{ℕ, ◌+◌, ◌*◌, ◌/◌, ◌^◌, ◌==◌, nat_lt, ◌&&◌, ◌||◌, not, if◌then◌else◌, Bool, true, false, List, [], ◌∷◌, ◌++◌}
+use Rattle.std.specs.Prelude.{map, Option, Some, None, slice_set}
 use Rattle.std.specs.Option.{option_map}
 use Rattle.plat_base.specs.Verdicts.{Answer}
 use Rattle.plat_base.specs.Machine.{Machine}
@@ -38,8 +39,12 @@ use Rattle.plat_events.specs.Words.{lock_place, is_locked, dir_read, bits_applie
 use Rattle.plat_events.specs.Places.{place_of, is_word}
 use Rattle.plat_events.specs.Operations.{is_store}
 use Rattle.plat_events.specs.Shootdowns.{Shoot, Makes, Polls, Done, own_post, shot_after}
-use Rattle.plat_events.specs.Sessions.{Fault, Course, Phase, Stamping, Seeking, Taking, Returning, Shooting, Filling, Reading, Copying, Giving, Storing, Granting, Unlocking, Session, decision_of, entry_faulted, memory_at, session_next, phase_after, with_phase, change_made, translation_made}
-use Rattle.plat_events.specs.Privates.{TurnOver, Relock, Rewait, Place, Polling, Looking, Applying, Ticking, Switching, Loading, Expecting, Exchanging, Locking, InSession, Leaving, Lessening, Gone, LiveLooking, TimeLooking, Over, Private, translation_at, period}
+use Rattle.plat_events.specs.Sessions.{Fault, Course, Phase, Stamping, Seeking, Taking, Returning, Shooting, Filling, Reading, Copying}
+use Rattle.plat_events.specs.Sessions.{Giving, Storing, Granting, Unlocking, Session, decision_of, entry_faulted, memory_at, session_next}
+use Rattle.plat_events.specs.Sessions.{phase_after, with_phase, change_made, translation_made}
+use Rattle.plat_events.specs.Privates.{TurnOver, Relock, Rewait, Place, Polling, Looking, Applying, Ticking, Switching, Loading, Expecting}
+use Rattle.plat_events.specs.Privates.{Exchanging, Locking, InSession, Leaving, Lessening, Gone, LiveLooking, TimeLooking, Over, Private}
+use Rattle.plat_events.specs.Privates.{translation_at, period}
 use Rattle.plat_events.specs.Scans.{entry_scanned, turn_over, scan_from, poll_place, look_place}
 
 -- ---- the access that a guest wants

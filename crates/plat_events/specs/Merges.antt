@@ -1,5 +1,6 @@
 -- the journals of the actors merged into one history: each time the lowest actor whose next item is ready gives it
-use Rattle.std.specs.Prelude.{ℕ, zero, suc, ◌==◌, nat_lt, nat_le, ◌&&◌, ◌||◌, not, if◌then◌else◌, Bool, false, List, [], ◌∷◌, sum_by, length, drop, Option, Some, None, slice_index_or, slice_set, slice_get}
+use Rattle.std.specs.Prelude.{ℕ, zero, suc, ◌==◌, nat_lt, nat_le, ◌&&◌, ◌||◌, not, if◌then◌else◌, Bool, false, List, [], ◌∷◌, sum_by}
+use Rattle.std.specs.Prelude.{length, drop, Option, Some, None, slice_index_or, slice_set, slice_get}
 use Rattle.std.specs.Option.{option_map_or}
 use Rattle.std.specs.List.{list_any, position_from}
 use Rattle.plat_base.specs.Flat.{is_write}

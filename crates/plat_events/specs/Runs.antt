@@ -1,5 +1,6 @@
 -- runs of single events: over a list of actors, and by the schedule of the machine
-use Rattle.std.specs.Prelude.{◌≡◌, ℕ, zero, suc, not, false, List, [], ◌∷◌, map, filter, length, take, Option, Some, None, slice_get, slice_set, slice_index}
+use Rattle.std.specs.Prelude.{◌≡◌, ℕ, zero, suc, not, false, List, [], ◌∷◌, map, filter, length, take, Option, Some, None, slice_get}
+use Rattle.std.specs.Prelude.{slice_set, slice_index}
 use Rattle.std.specs.List.{fold}
 use Rattle.std.specs.Option.{option_map_or}
 use Rattle.plat_base.specs.Verdicts.{Answer}
@@ -13,7 +14,9 @@ use Rattle.plat_base.specs.declared.endings.Ended.{Ended}
 use Rattle.plat_base.specs.declared.words.Op.{Op}
 use Rattle.plat_events.specs.Places.{first_words}
 use Rattle.plat_events.specs.Operations.{written, told}
-use Rattle.plat_events.specs.Privates.{Place, Polling, Looking, Applying, Ticking, Switching, Loading, Expecting, Exchanging, Locking, InSession, Leaving, Lessening, Gone, LiveLooking, TimeLooking, Over, Private, first_privates, is_over}
+use Rattle.plat_events.specs.Privates.{Place, Polling, Looking, Applying, Ticking, Switching, Loading, Expecting, Exchanging, Locking}
+use Rattle.plat_events.specs.Privates.{InSession, Leaving, Lessening, Gone, LiveLooking, TimeLooking, Over, Private, first_privates}
+use Rattle.plat_events.specs.Privates.{is_over}
 use Rattle.plat_events.specs.Events.{next_of, after, item_of, with_item}
 
 -- the shared words, the private state of each actor, and the history

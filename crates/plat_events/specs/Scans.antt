@@ -7,7 +7,8 @@ use Rattle.plat_base.specs.declared.items.Moment.{Moment}
 use Rattle.plat_base.specs.declared.items.Moment.TheVariants as moment
 use Rattle.plat_base.specs.declared.endings.End.TheVariants as end
 use Rattle.plat_events.specs.Words.{has_bit, has_invalidate, has_restrict}
-use Rattle.plat_events.specs.Privates.{Onward, NewTurn, TurnOver, Relock, Rewait, Place, Polling, Looking, Applying, Ticking, Locking, InSession, Leaving, Private}
+use Rattle.plat_events.specs.Privates.{Onward, NewTurn, TurnOver, Relock, Rewait, Place, Polling, Looking, Applying, Ticking, Locking}
+use Rattle.plat_events.specs.Privates.{InSession, Leaving, Private}
 
 -- the entry that a scan of the active space looks at
 abbrev pub entry_scanned : Machine → Private → ℕ → ℕ

@@ -1,5 +1,6 @@
 -- sessions: what an actor that has locked a page does until it unlocks it, operation by operation
-use Rattle.std.specs.Prelude.{ℕ, ◌+◌, ◌^◌, ◌==◌, nat_lt, ◌&&◌, not, if◌then◌else◌, false, List, [], ◌∷◌, length, filter, Option, Some, None, unwrap_or, slice_index, slice_index_or}
+use Rattle.std.specs.Prelude.{ℕ, ◌+◌, ◌^◌, ◌==◌, nat_lt, ◌&&◌, not, if◌then◌else◌, false, List, [], ◌∷◌, length, filter, Option, Some, None}
+use Rattle.std.specs.Prelude.{unwrap_or, slice_index, slice_index_or}
 use Rattle.std.specs.Option.{option_map}
 use Rattle.std.specs.List.{fold, list_any}
 use Rattle.plat_base.specs.Verdicts.{Answer}

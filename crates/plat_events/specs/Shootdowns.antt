@@ -1,5 +1,6 @@
 -- shootdowns, operation by operation: the posts to the entries of a page, and the wait for each target (Cox and Fowler 1989)
-use Rattle.std.specs.Prelude.{ℕ, ◌+◌, ◌^◌, ◌==◌, nat_lt, ◌&&◌, not, if◌then◌else◌, Bool, List, [], ◌∷◌, ◌++◌, map, filter, length, Option, Some, None, slice_index, slice_index_or}
+use Rattle.std.specs.Prelude.{ℕ, ◌+◌, ◌^◌, ◌==◌, nat_lt, ◌&&◌, not, if◌then◌else◌, Bool, List, [], ◌∷◌, ◌++◌, map, filter, length, Option}
+use Rattle.std.specs.Prelude.{Some, None, slice_index, slice_index_or}
 use Rattle.std.specs.List.{flat_map, zip}
 use Rattle.plat_base.specs.Machine.{Machine}
 use Rattle.plat_base.specs.Pages.{numbers, space_of, entries_of_page}

@@ -1,5 +1,6 @@
 -- the invariant of the shared state: what holds at the start and after every event of a live actor
-use Rattle.std.specs.Prelude.{◌≡◌, ◌≢◌, ℕ, ◌+◌, ◌<◌, ◌≤◌, ◌==◌, not, if◌then◌else◌, Bool, false, List, [], ◌∷◌, length, sum_by, filter, count_by, Option, Some, None, is_some, IsTrue, take}
+use Rattle.std.specs.Prelude.{◌≡◌, ◌≢◌, ℕ, ◌+◌, ◌<◌, ◌≤◌, ◌==◌, not, if◌then◌else◌, Bool, false, List, [], ◌∷◌, length, sum_by, filter}
+use Rattle.std.specs.Prelude.{count_by, Option, Some, None, is_some, IsTrue, take}
 use Rattle.std.specs.List.{fold}
 use Rattle.plat_base.specs.Verdicts.{Answer}
 use Rattle.plat_base.specs.Machine.{Machine}
@@ -26,9 +27,12 @@ use Rattle.std.specs.Option.{option_map_or}
 use Rattle.plat_events.specs.Words.{has_bit, has_reference, dir_read, is_locked, stamp_word, data_word}
 use Rattle.plat_events.specs.Places.{entry_count, word_count, is_name, is_word}
 use Rattle.plat_events.specs.Sessions.{Stamp, Course, Session, decision_of, last_stored}
-use Rattle.plat_events.specs.Privates.{Place, Polling, Looking, Applying, Ticking, Switching, Loading, Expecting, Exchanging, Locking, InSession, Leaving, Lessening, Gone, LiveLooking, TimeLooking, Over, Private, actor_count, first_private, is_over}
+use Rattle.plat_events.specs.Privates.{Place, Polling, Looking, Applying, Ticking, Switching, Loading, Expecting, Exchanging, Locking}
+use Rattle.plat_events.specs.Privates.{InSession, Leaving, Lessening, Gone, LiveLooking, TimeLooking, Over, Private, actor_count}
+use Rattle.plat_events.specs.Privates.{first_private, is_over}
 use Rattle.plat_events.specs.Events.{named_next, is_followed, after}
-use Rattle.plat_events.specs.Standings.{stamp_of, course_of, is_stamped, is_quiet, words_filled, word_copied, hand_of, posts_of, removes_by, saw_no_frame}
+use Rattle.plat_events.specs.Standings.{stamp_of, course_of, is_stamped, is_quiet, words_filled, word_copied, hand_of, posts_of, removes_by}
+use Rattle.plat_events.specs.Standings.{saw_no_frame}
 use Rattle.plat_events.specs.Kept.{Running, session_on, session_of, is_kept, word_at, private_of, has_left}
 use Rattle.plat_events.specs.Views.{EntryOk, HeldOk, InvalidateStays, view, held_view, translation_of}
 use Rattle.plat_events.specs.Runs.{Fine, ends_of}

@@ -1,18 +1,20 @@
 -- the actors of a run: the processors, and then the daemon, where there is one
-use Rattle.std.proofs.Common.{◌≡◌, ℕ, zero, suc, ◌+◌, ◌<◌, Bool, true, false, List, [], ◌∷◌, ◌++◌, length, set, map, refl, sym, ap, ◌∙◌, arith, append-nil}
+use Rattle.std.proofs.Common.{◌≡◌, ℕ, zero, suc, ◌+◌, ◌<◌, Bool, true, false, List, [], ◌∷◌, ◌++◌, length, set, map, refl, sym, ap, ◌∙◌}
+use Rattle.std.proofs.Common.{arith, append-nil}
 use Rattle.std.specs.Prelude.{not, if◌then◌else◌, Option, Some, None, slice_get, slice_set, slice_index_or}
 use Rattle.std.specs.Option.{option_map_or}
 use Rattle.std.proofs.lemmas.List.{length-map, set-append_left}
 use Rattle.plat_base.specs.Machine.{Machine}
 use Rattle.plat_base.specs.Pages.{numbers}
 use Rattle.plat_base.specs.Rules.{has_daemon}
-use Rattle.plat_laws.proofs.GuestLaws.{slice_get-append, slice_get-append_at}
+use Rattle.plat_laws.proofs.GuestLaws.{slice_get-append_at}
 use Rattle.plat_events.specs.Privates.{Private, first_private, first_privates, is_over}
 use Rattle.plat_proc.specs.ProcSeen.{ProcSeen}
 use Rattle.plat_daemon.specs.DaemonSeen.{DaemonSeen, state_of}
 use Rattle.plat_fine.specs.Crew.{no_private, proc_at, states, daemon_states, privates_of, first_daemon, first_states}
 use Rattle.plat_fine.specs.FineSeen.{is_live, items_swept}
 use Rattle.plat_fine.proofs.CrewLemmas.{get-states, states-set, first-more}
+use Rattle.plat_base.proofs.ListLemmas.{slice_get-append}
 
 -- ---- where an actor stands
 

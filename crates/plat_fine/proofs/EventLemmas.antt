@@ -1,7 +1,7 @@
 -- an event through a port is the event of a run
 use Rattle.std.proofs.Common.{◌≡◌, ℕ, Bool, true, false, List, [], ◌∷◌, ◌++◌, length, refl, sym, ap, ◌∙◌, arith}
 use Rattle.std.specs.Prelude.{Option, Some, None, slice_get, slice_set, slice_index}
-use Rattle.std.proofs.lemmas.Option.{slice_get_past}
+use Rattle.std.proofs.lemmas.Option.{slice_get_past, same_Some}
 use Rattle.plat_base.specs.Machine.{Machine}
 use Rattle.plat_base.specs.Verdicts.{Answer, policy_answer}
 use Rattle.plat_base.specs.declared.items.Item.{Item}
@@ -49,9 +49,6 @@ event-journal m a p q before now e =
 abbrev pub fine_of : List ℕ → List Private → List Item → Fine
 fine_of words privates history = record { words = words; privates = privates; history = history }
 
-same_some : (xs ys : List ℕ) → Some xs ≡ Some ys → xs ≡ ys
-same_some xs ys e = cc
-
 -- the run after an event of actor a, which stood at p and then stands at q
 pub event-is :
     (m : Machine) (words now : List ℕ) (privates : List Private) (history : List Item) (a : ℕ) (p q : Private) →
@@ -65,7 +62,7 @@ event-is m words now privates history a p q there e =
     let n = e.2.0 in
     let made : Makes m a p q (Some words) (Some now) x n = e.2.1 in
     let found = slice_index words x.0 in
-    let word : now ≡ slice_set words x.0 (written x.1 found) = same_some now (words_set x.0 x.1 words) made.words in
+    let word : now ≡ slice_set words x.0 (written x.1 found) = same_Some now (words_set x.0 x.1 words) made.words in
     let tells : n ≡ told x.1 found = made.found in
     let state : q ≡ after m answer a p (told x.1 found) = made.state ∙ ap (λ (k : ℕ). after m answer a p k) tells in
     let item : slice_get q.journal (length p.journal) ≡ item_of m answer a p (told x.1 found) =

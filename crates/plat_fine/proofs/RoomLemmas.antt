@@ -1,5 +1,6 @@
 -- a history has room for the items of all journals
-use Rattle.std.proofs.Common.{◌≡◌, ℕ, ◌+◌, ◌-◌, ◌*◌, ◌<◌, ◌≤◌, Bool, true, List, [], ◌∷◌, length, get_or, refl, ap, ◌∙◌, subst, arith, length-append}
+use Rattle.std.proofs.Common.{◌≡◌, ℕ, ◌+◌, ◌-◌, ◌*◌, ◌<◌, ◌≤◌, Bool, true, List, [], ◌∷◌, length, get_or, refl, ap, ◌∙◌, subst, arith}
+use Rattle.std.proofs.Common.{length-append}
 use Rattle.std.specs.Prelude.{IsTrue, if◌then◌else◌, replicate, sum_by, Option, Some, None, slice_index}
 use Rattle.std.specs.List.{sum}
 use Rattle.std.specs.Option.{option_to_list}
@@ -57,12 +58,6 @@ room-of_daemon m =
     get_or-append_right (rooms_of_processors m) (rooms_of_daemon m) m.nodes m.nodes 0
     (length-replicate m.nodes (processor_room m.budget)) (omega arith)
     ∙ ap (λ i. get_or (rooms_of_daemon m) i 0) none ∙ first-sum (daemon_room m.nodes m.budget m.pages m.policy)
-
--- they fit 32 bits
-pub processors-fit : (m : Machine) → IsTrue (is_machine m) → m.nodes * (4 * m.budget) ≤ 2097152
-processors-fit m h =
-    let l : Limits m = limits_of m h in
-    mul-le m.nodes (4 * m.budget) 8 262144 l.nodes_most (omega (arith, l.budget_most))
 
 -- ---- no journal is longer than its room
 

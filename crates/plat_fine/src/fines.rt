@@ -49,7 +49,8 @@ impl Model for Fine {
 /// The processors before their first turns.
 fn crew(alloc: Global, cfg: &Config) -> Result<Vec<Proc>, OutOfMemory>
     ensures crew { IfOk result (λ procs. IsCrew (machine cfg.now) procs.items) }
-    ensures states { IfOk result (λ procs. states procs.items ≡ first_states (machine cfg.now) cfg.now.nodes) }
+    ensures states { IfOk result (λ procs. states procs.items
+        ≡ first_states (machine cfg.now) cfg.now.nodes) }
 {
     let Ok(mut procs) = Vec::with_capacity(alloc, cfg.nodes as usize) else {
         return Err(OutOfMemory);

@@ -1,8 +1,9 @@
 -- an access under way goes to a kept copy, finds flat memory's word there, and breaks no rule
-use Rattle.std.specs.Prelude.{◌≡◌, ◌≢◌, ℕ, ◌+◌, ◌*◌, ◌^◌, ◌<◌, ◌==◌, nat_lt, nat_le, ◌&&◌, not, Bool, true, false, is_some, Option, Some, None, IsTrue}
+use Rattle.std.specs.Prelude.{◌≡◌, ◌≢◌, ℕ, ◌+◌, ◌*◌, ◌^◌, ◌<◌, ◌==◌, nat_lt, nat_le, ◌&&◌, not, Bool, true, false, is_some, Option, Some}
+use Rattle.std.specs.Prelude.{None, IsTrue}
 use Rattle.std.proofs.Common.{refl, ap, sym, ◌∙◌, arith, subst}
 use Rattle.std.specs.Option.{option_map_or}
-use Rattle.std.proofs.lemmas.Bool.{and_parts, eqb-true, eq-eqb}
+use Rattle.std.proofs.lemmas.Bool.{and_parts, eqb-true, eq-eqb, and_from}
 use Rattle.std.proofs.lemmas.Bool.Decides.{nat_tests}
 use Rattle.plat_base.specs.Verdicts.{Answer}
 use Rattle.plat_base.specs.Machine.{Machine}
@@ -30,7 +31,8 @@ use Rattle.plat_events.specs.Places.{is_name, is_data_word}
 use Rattle.plat_events.specs.Privates.{actor_count}
 use Rattle.plat_events.specs.Events.{reach_wanted, reach_now, entry_of, frame_by, seq_by, memory_now, access_made}
 use Rattle.plat_events.specs.Standings.{is_quiet, removes_by}
-use Rattle.plat_events.specs.Kept.{Running, session_on, session_of, gave_back, has_left, activation_at, is_copy_of, is_kept, word_at, private_of}
+use Rattle.plat_events.specs.Kept.{Running, session_on, session_of, gave_back, has_left, activation_at, is_copy_of, is_kept, word_at}
+use Rattle.plat_events.specs.Kept.{private_of}
 use Rattle.plat_events.specs.Views.{Own, EntryOk, session_view, view, names_copy, agrees, translation_of}
 use Rattle.plat_events.specs.Runs.{Fine}
 use Rattle.plat_events.specs.Shown.{flat_word, Shows}
@@ -45,15 +47,12 @@ use Rattle.plat_local_laws.proofs.UseLaws.{access-usable}
 use Rattle.plat_local_laws.proofs.RuleLaws.{ordered_access}
 use Rattle.plat_fine_laws.proofs.AloneLaws.{alone_ok}
 use Rattle.plat_fine_laws.proofs.FreeLaws.{adds_as, not_own, held-right, held-agrees}
-use Rattle.plat_fine_laws.proofs.TableFacts.{same_frame-same}
 use Rattle.plat_fine_laws.proofs.SmallLaws.{flat-small}
 use Rattle.plat_fine_laws.proofs.ViewFactLaws.{view_facts}
+use Rattle.plat_local_laws.proofs.NameLaws.{has_right-some}
+use Rattle.plat_laws.proofs.SameLaws.{same_frame-true}
 
 -- ---- small readings
-
-there-some : (k : Kind) (t : Option Translation) → has_right k t ≡ true → (x : Translation) × (t ≡ Some x)
-there-some k None right = absurd cc
-there-some k (Some x) right = (x, refl)
 
 -- an access that writes has the right of a store
 right-writes : (k : Kind) (t : Option Translation) → is_write k ≡ true → has_right k t ≡ true → has_right kind.Store t ≡ true
@@ -61,10 +60,6 @@ right-writes k None writes right = absurd cc
 right-writes kind.Load (Some x) writes right = absurd cc
 right-writes kind.Store (Some x) writes right = right
 right-writes kind.Add (Some x) writes right = sym (adds_as x.grant.right) ∙ right
-
-both_so : (b c : Bool) → b ≡ true → c ≡ true → (b && c) ≡ true
-both_so true c h k = k
-both_so false c h k = absurd cc
 
 not_both : (b c : Bool) → (b ≡ true → c ≡ false) → not (b && c) ≡ true
 not_both true c h = ap not (h refl)
@@ -77,7 +72,7 @@ agrees-is :
 agrees-is x None same = absurd cc
 agrees-is x (Some y) same =
     let first = parts (same_frame x.grant.frame y.grant.frame) (x.seq == y.seq) (same_bool x.restricted y.restricted) same in
-    (y, refl, sym (same_frame-same x.grant.frame y.grant.frame first.0), sym (eqb-true x.seq y.seq first.1))
+    (y, refl, sym (same_frame-true x.grant.frame y.grant.frame first.0), sym (eqb-true x.seq y.seq first.1))
   where
     parts : (a b c : Bool) → (a && b && c) ≡ true → (a ≡ true) × (b ≡ true)
     parts true true c h = (refl, refl)
@@ -137,7 +132,7 @@ module _ (m : Machine) (answer : Answer) (s : Fine) (a : ℕ) (writes : Bool) (l
       ap (λ (x : Reach). x.page) same ∙ reach.page
 
   some : (x : Translation) × (translation_of m s a e ≡ Some x)
-  some = there-some r.kind (translation_of m s a e) access.right
+  some = has_right-some r.kind (translation_of m s a e) access.right
 
   facts : ViewFacts (view m answer s a e)
   facts = view_facts m answer s limits shows (λ b inside. alone_ok m answer s b limits shows inside) a e access.processor reach.below
@@ -248,7 +243,7 @@ module _ (m : Machine) (answer : Answer) (s : Fine) (a : ℕ) (writes : Bool) (l
       let seq : acc.grant ≡ some.0.seq = ap seq_by some.1 in
       let is_grant : is_grant_of acc (held m s.history a e) ≡ true =
       ap (is_grant_of acc) holds.1
-      ∙ both_so (same_frame holds.0.grant.frame acc.frame) (holds.0.seq == acc.grant)
+      ∙ and_from (same_frame holds.0.grant.frame acc.frame) (holds.0.seq == acc.grant)
       (ap (λ f. same_frame f acc.frame) (holds.2 ∙ sym frame) ∙ same_frame-itself acc.frame)
       (eq-eqb holds.0.seq acc.grant (holds.3 ∙ sym seq)) in
       let right : has_right r.kind (held m s.history a e) ≡ true =

@@ -1,8 +1,9 @@
 -- sums, counts and ends over the processors, where one private state is another
 use Rattle.std.specs.Prelude.{◌≡◌, ◌⊎◌, ℕ, ◌<◌, ◌≤◌, not, List, map, take, cond, slice_get, slice_set, Option, Some}
-use Rattle.std.proofs.Common.{ap, ◌∙◌, inl, inr, arith}
+use Rattle.std.proofs.Common.{ap, ◌∙◌, inl, inr}
 use Rattle.std.specs.List.{sum_by, count_by}
 use Rattle.std.proofs.lemmas.List.{take-set-le}
+use Rattle.std.proofs.lemmas.Bool.{cases_lt}
 use Rattle.plat_base.specs.Machine.{Machine}
 use Rattle.plat_base.specs.declared.items.Item.{Item}
 use Rattle.plat_base.specs.declared.words.WordName.{WordName}
@@ -19,9 +20,6 @@ pub among-cases :
     ⊎ (take n (slice_set ps a after) ≡ take n ps)
 among-cases n a ps p after here = by (cases_lt a n)
   where
-    cases_lt : (i k : ℕ) → (i < k) ⊎ (k ≤ i)
-    cases_lt i k = grind arith
-
     by : (a < n) ⊎ (n ≤ a) → ((a < n) × (take n (slice_set ps a after) ≡ slice_set (take n ps) a after) × (slice_get
         (take n ps) a ≡ Some p))
         ⊎ (take n (slice_set ps a after) ≡ take n ps)

@@ -34,13 +34,7 @@ use Rattle.plat_fine_laws.proofs.StayLaws
 -- ---- no item
 
 pub leaves-none : (m : Machine) (items : List Item) → LeavesPages m items items
-leaves-none m items = record {
-  dir = λ page. refl;
-  seq = λ page. refl;
-  last = λ page. refl;
-  removals = λ test page seq. refl;
-  held = λ q e. refl;
-}
+leaves-none m items = search arith
 
 pub flat-none : (m : Machine) (s t : Fine) → t.history ≡ s.history → (page w : ℕ) → KeepsFlat m s t page w
 flat-none m s t same page w = record {

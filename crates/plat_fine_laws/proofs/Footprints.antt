@@ -15,9 +15,11 @@ use Rattle.plat_base.specs.declared.words.WordName.TheVariants as word
 use Rattle.plat_events.specs.Words.{lock_place, bits_applied, all_but}
 use Rattle.plat_events.specs.Places.{is_word}
 use Rattle.plat_events.specs.Sessions.{Fault}
-use Rattle.plat_events.specs.Privates.{Onward, TurnOver, Gone, Polling, Looking, Applying, Ticking, Switching, Loading, Expecting, Exchanging, Locking, Leaving, Lessening, LiveLooking, TimeLooking, Over, Private, translation_at}
+use Rattle.plat_events.specs.Privates.{Onward, TurnOver, Gone, Polling, Looking, Applying, Ticking, Switching, Loading, Expecting}
+use Rattle.plat_events.specs.Privates.{Exchanging, Locking, Leaving, Lessening, LiveLooking, TimeLooking, Over, Private, translation_at}
 use Rattle.plat_events.specs.Scans.{entry_scanned, scan_from, poll_place, look_place}
-use Rattle.plat_events.specs.Events.{at, memory_now, word_after, reach_now, ticked, apply_message, switched, access_over, access_made, applied_item, lock_place_after, pass_begun, with_item}
+use Rattle.plat_events.specs.Events.{at, memory_now, word_after, reach_now, ticked, apply_message, switched, access_over, access_made}
+use Rattle.plat_events.specs.Events.{applied_item, lock_place_after, pass_begun, with_item}
 use Rattle.plat_events.specs.Kept.{word_at}
 use Rattle.plat_events.specs.Runs.{Fine, event}
 use Rattle.plat_fine_laws.specs.Changes.{Changes}

@@ -1,5 +1,6 @@
 -- a good history with one more item that breaks no rule, and another end of the processor that made it, is good
-use Rattle.std.specs.Prelude.{◌≡◌, ◌≢◌, ◌⊎◌, ℕ, ◌+◌, ◌<◌, ◌≤◌, nat_le, ◌&&◌, true, false, List, [], ◌∷◌, length, take, slice_index_or, slice_get, slice_set, Option, Some, None}
+use Rattle.std.specs.Prelude.{◌≡◌, ◌≢◌, ◌⊎◌, ℕ, ◌+◌, ◌<◌, ◌≤◌, nat_le, ◌&&◌, true, false, List, [], ◌∷◌, length, take, slice_index_or}
+use Rattle.std.specs.Prelude.{slice_get, slice_set, Option, Some, None}
 use Rattle.std.proofs.Common.{refl, ap, sym, ◌∙◌, inl, inr, arith, subst}
 use Rattle.std.specs.List.{list_any}
 use Rattle.std.proofs.lemmas.Bool.{ne_eqb, cases_eq}
@@ -8,28 +9,19 @@ use Rattle.std.proofs.lemmas.Option.{slice_get_within}
 use Rattle.plat_base.specs.Verdicts.{Answer}
 use Rattle.plat_base.specs.Machine.{Machine}
 use Rattle.plat_base.specs.Ends.{ended_of, cut_at}
-use Rattle.plat_base.specs.Rules.{Good, bad_rule, bad_after, bad_ends, bad_or, first_bad, is_end, is_in_order}
+use Rattle.plat_base.specs.Rules.{Good, bad_rule, bad_after, bad_ends, first_bad, is_end, is_in_order}
 use Rattle.plat_base.specs.declared.items.Item.{Item}
 use Rattle.plat_base.specs.declared.items.Item.TheVariants as item
 use Rattle.plat_base.specs.declared.endings.Ended.{Ended}
-use Rattle.plat_base.specs.declared.statuses.Bad.{Bad}
 use Rattle.plat_laws.proofs.ItemLaws.{is_by, is_in_order-not_mine}
-use Rattle.plat_laws.proofs.HistoryLaws.{one_history}
+use Rattle.plat_laws.proofs.HistoryLaws.{one_history, good-items}
 use Rattle.plat_laws.proofs.EndLaws.{is_in_order-from, first_bad-none, bad_after-more, bad_after-one}
 use Rattle.plat_events.specs.Privates.{Private, first_private}
 use Rattle.plat_events.specs.Events.{with_item}
 use Rattle.plat_events.specs.Runs.{end_at, ended_by, ends_of}
 use Rattle.plat_events.specs.Shown.{actor_of}
 use Rattle.plat_fine_laws.specs.Changes.{IsBy}
-
-both-none : (x y : Option Bad) → bad_or x y ≡ None → (x ≡ None) × (y ≡ None)
-both-none None y h = (refl, h)
-both-none (Some b) y h = absurd cc
-
-pub good-items : (m : Machine) (answer : Answer) (items : List Item) (ends : List Ended) → Good m answer items ends →
-    bad_after m answer [] 0 items ≡ None
-unfolding first_bad
-good-items m answer items ends good = (both-none (bad_after m answer [] 0 items) (bad_ends m items ends) good).0
+use Rattle.plat_base.proofs.RuleLemmas.{bad_or-none}
 
 bad-more :
     (m : Machine) (answer : Answer) (items : List Item) (made : Option Item) → bad_after m answer [] 0 items ≡ None →

@@ -24,8 +24,10 @@ use Rattle.plat_events.specs.Shown.{act_of, goes_to, frame_word, IsReachedAlone,
 use Rattle.plat_fine_laws.specs.Changes.{Changes, KeepsPage, KeepsFlat, ShowsFlat, LeavesDirs, ShowsEntries, KeepsTableWords, IsBy}
 use Rattle.plat_fine_laws.proofs.PrivateLaws.{private_of-get, private_of-new}
 use Rattle.plat_fine_laws.proofs.SessionOnLaws.{found_in, session_on-set}
-use Rattle.plat_fine_laws.proofs.ActorFieldLaws.{running-on, words_encoded-kept, all_words-kept, all_privates-kept, each-private, journals-kept, reached-kept}
-use Rattle.plat_fine_laws.proofs.PageFieldLaws.{dir_read_is-kept, stamp_read_is-kept, lock_is_session-kept, dir_is_history-kept, stamp_is_history-kept, copies_fit-kept, hand_apart-kept, enough_finds-kept, posts_made-kept}
+use Rattle.plat_fine_laws.proofs.ActorFieldLaws.{running-on, words_encoded-kept, all_words-kept, all_privates-kept, each-private}
+use Rattle.plat_fine_laws.proofs.ActorFieldLaws.{journals-kept, reached-kept}
+use Rattle.plat_fine_laws.proofs.PageFieldLaws.{dir_read_is-kept, stamp_read_is-kept, lock_is_session-kept, dir_is_history-kept}
+use Rattle.plat_fine_laws.proofs.PageFieldLaws.{stamp_is_history-kept, copies_fit-kept, hand_apart-kept, enough_finds-kept, posts_made-kept}
 use Rattle.plat_fine_laws.proofs.FrameFieldLaws.{frames_once-kept, kept_flat-kept, hand_flat-kept, read_flat-kept}
 
 module _ (m : Machine) (answer : Answer) (s t : Fine) (a : ℕ) (name : WordName) (number : ℕ) (p : Private) (made : Option Item)

@@ -28,6 +28,7 @@ pub mod StayLaws
 pub mod EndFieldLaws
 pub mod GoodLaws
 pub mod AloneLaws
+pub mod MadeLaws
 pub mod EndLaws
 pub mod FreeLaws
 pub mod LessenLaws

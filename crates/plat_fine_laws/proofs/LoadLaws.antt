@@ -1,11 +1,10 @@
 -- the load of a data word keeps the invariant
-use Rattle.std.specs.Prelude.{◌≡◌, ℕ, ◌+◌, ◌<◌, if◌then◌else◌, true, false, List, [], ◌∷◌, ◌++◌, slice_get, slice_index, Some, None, IsTrue}
+use Rattle.std.specs.Prelude.{◌≡◌, ℕ, ◌+◌, ◌<◌, if◌then◌else◌, false, List, [], ◌∷◌, ◌++◌, slice_get, slice_index, Some, None, IsTrue}
 use Rattle.std.proofs.Common.{refl, ap, sym, ◌∙◌, arith, subst}
-use Rattle.std.specs.Option.{option_map}
 use Rattle.plat_base.specs.Verdicts.{Answer}
 use Rattle.plat_base.specs.Machine.{Machine}
 use Rattle.plat_base.specs.Flat.{is_write, writes_word, flat_value, flat_writes}
-use Rattle.plat_base.specs.Rules.{Good, bad_rule, is_end}
+use Rattle.plat_base.specs.Rules.{Good, bad_rule}
 use Rattle.plat_base.specs.declared.items.Access.{Access}
 use Rattle.plat_base.specs.declared.items.Item.{Item}
 use Rattle.plat_base.specs.declared.items.Item.TheVariants as item
@@ -13,17 +12,17 @@ use Rattle.plat_base.specs.declared.words.Op.TheVariants as op
 use Rattle.plat_base.specs.declared.words.WordName.{WordName}
 use Rattle.plat_base.specs.declared.words.WordName.TheVariants as word
 use Rattle.plat_laws.specs.Guests.{IsWithinLimits}
-use Rattle.plat_laws.proofs.ItemLaws.{dir_of-access, seq_of-access, last_of-access, held-access, later-access, flat_value-append, flat_writes-append}
+use Rattle.plat_laws.proofs.ItemLaws.{dir_of-access, seq_of-access, last_of-access, held-access, later-access, flat_value-append}
+use Rattle.plat_laws.proofs.ItemLaws.{flat_writes-append}
 use Rattle.plat_laws.proofs.GuestLaws.{space_after, space-guest_after}
 use Rattle.plat_events.specs.Words.{value_read}
 use Rattle.plat_events.specs.Places.{place_of, is_name, is_word}
-use Rattle.plat_events.specs.Sessions.{Session}
 use Rattle.plat_events.specs.Privates.{Place, Loading, Private, actor_count, is_over}
 use Rattle.plat_events.specs.Events.{named_next, memory_now, access_over, with_item}
 use Rattle.plat_events.specs.Kept.{session_of, has_left, activation_at, word_at, private_of}
 use Rattle.plat_events.specs.Views.{place_view}
-use Rattle.plat_events.specs.Runs.{Fine, event, end_at, ends_of}
-use Rattle.plat_events.specs.Shown.{actor_of, items_by, act_of, IsReachedAlone, Shows}
+use Rattle.plat_events.specs.Runs.{Fine, event, ends_of}
+use Rattle.plat_events.specs.Shown.{act_of, IsReachedAlone, Shows}
 use Rattle.plat_local_laws.specs.Faults.{AccessOk}
 use Rattle.plat_local_laws.specs.Numbers.{is_in_turn}
 use Rattle.plat_local_laws.specs.Standing.{PlaceOk}
@@ -32,14 +31,12 @@ use Rattle.plat_local_laws.specs.Alone.{PrivateOk}
 use Rattle.plat_local_laws.proofs.NameLaws.{names_word}
 use Rattle.plat_local_laws.proofs.GuestStepLaws.{access_now}
 use Rattle.plat_local_laws.proofs.PrivateLaws.{private_ok}
-use Rattle.plat_local_laws.proofs.OrderLaws.{cut_in_order}
-use Rattle.plat_fine_laws.specs.Changes.{Changes, GoesOn, KeepsFlat, IsBy, Stays, LeavesPages, KeepsPageWords}
+use Rattle.plat_fine_laws.specs.Changes.{Changes, GoesOn, KeepsFlat, Stays, LeavesPages, KeepsPageWords}
 use Rattle.plat_fine_laws.proofs.WordLaws.{words-loaded}
 use Rattle.plat_fine_laws.proofs.PrivateLaws.{private_of-get}
 use Rattle.plat_fine_laws.proofs.ActorFieldLaws.{each-private}
-use Rattle.plat_fine_laws.proofs.JournalLaws.{items_by-own}
+use Rattle.plat_fine_laws.proofs.MadeLaws.{stays-made, good-made}
 use Rattle.plat_fine_laws.proofs.EndFieldLaws.{turns-still, live-still}
-use Rattle.plat_fine_laws.proofs.GoodLaws.{good-next}
 use Rattle.plat_fine_laws.proofs.PlacedLaws.{Scans-still}
 use Rattle.plat_fine_laws.proofs.PlaceLaws.{turn_over-goes, IsPlain, plain_view}
 use Rattle.plat_fine_laws.proofs.TurnLaws.{turn_over-plain}
@@ -126,22 +123,8 @@ module _ (m : Machine) (answer : Answer) (s : Fine) (a : ℕ) (limits : IsWithin
   moved-space =
       space-guest_after m a (private_of m s a).guest (value_read n) ∙ ap (space_after (private_of m s a).guest.space) access.wants
 
-  own : IsBy a (Some made)
-  own = λ i is. ap actor_of (same_item i is)
-    where
-      same_item : (i : Item) → Some made ≡ Some i → i ≡ made
-      same_item i is = cc
-
   stays : Stays m a (private_of m s a) next (Some made)
-  stays = record {
-    pmap = refl;
-    running =
-        ap (option_map (λ (x : Session). record { actor = a; now = (private_of m s a).now; session = x })) goes.session
-        ∙ sym (ap (option_map (λ (x : Session). record { actor = a; now = (private_of m s a).now; session = x })) (ap session_of stands));
-    journal = refl;
-    own = own;
-    framed = λ enough. goes.framed;
-  }
+  stays = stays-made m a (private_of m s a) next made refl (ap session_of stands) goes refl refl refl
 
   leaves : LeavesPages m s.history (event m answer s a).history
   leaves = subst (LeavesPages m s.history) (sym changes.history) (leaves-access m s.history acc)
@@ -161,18 +144,8 @@ module _ (m : Machine) (answer : Answer) (s : Fine) (a : ℕ) (limits : IsWithin
 
   good : Good m answer (event m answer s a).history (ends_of m (event m answer s a).privates)
   good =
-      let journal : items_by a (with_item s.history (Some made)) ≡ next.journal =
-      items_by-own a s.history (Some made) own ∙ ap (λ j. with_item j (Some made)) (sym (shows.journals_are_history a within)) in
-      let cut : is_end m (with_item s.history (Some made)) a (end_at next.place) next.turns ≡ true =
-      ap (λ e. is_end m (with_item s.history (Some made)) a e next.turns) goes.ended
-      ∙ cut_in_order m answer a next (with_item s.history (Some made)) alone_after access.processor (sym journal) in
-      let ok = good-next m s.privates a (private_of m s a) next access.processor (omega (arith, shows.all_privates)) here answer s.history
-      (Some made) shows.history_good own (λ i is. subst (λ j. bad_rule m answer s.history j ≡ None) (same_item i is) rule)
-      alone_after.standing.turns_most cut in
-      rw (changes.history, changes.privates) ok
-    where
-      same_item : (i : Item) → Some made ≡ Some i → made ≡ i
-      same_item i is = cc
+      good-made m answer s (event m answer s a) a name n next made shows within access.processor changes stays.own refl rule alone_after
+      goes.ended
 
   acts : (q : ℕ) → q < m.nodes → word_at m (event m answer s a) (word.Act q) ≡ act_of (private_of m (event m answer s a) q)
   acts q nodes =

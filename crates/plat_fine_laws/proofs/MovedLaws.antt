@@ -15,7 +15,8 @@ use Rattle.plat_events.specs.Kept.{word_at, private_of}
 use Rattle.plat_events.specs.Views.{place_view}
 use Rattle.plat_events.specs.Runs.{Fine, ends_of}
 use Rattle.plat_events.specs.Shown.{act_of, IsReachedAlone, Shows}
-use Rattle.plat_fine_laws.specs.Changes.{Changes, Moves, Stays, LeavesPages, AreEntriesOk, KeepsWords, KeepsPageWords, is_page_word, is_read}
+use Rattle.plat_fine_laws.specs.Changes.{Changes, Moves, Stays, LeavesPages, AreEntriesOk, KeepsWords, KeepsPageWords, is_page_word}
+use Rattle.plat_fine_laws.specs.Changes.{is_read}
 use Rattle.plat_fine_laws.specs.Placed.{Scans}
 use Rattle.plat_fine_laws.proofs.PrivateLaws.{private_of-get}
 use Rattle.plat_fine_laws.proofs.ActorFieldLaws.{each-private}

@@ -8,7 +8,8 @@ use Rattle.plat_base.specs.Pages.{page_of}
 use Rattle.plat_base.specs.Held.{held, has_right}
 use Rattle.plat_base.specs.declared.items.Kind.TheVariants.{Store}
 use Rattle.plat_base.specs.declared.words.WordName.TheVariants.{Cmap}
-use Rattle.plat_events.specs.Views.{View, PlaceView, EntryOk, InvalidateStays, HeldView, HeldOk, view, view_of, session_view, place_view, held_view, agrees, translation_of}
+use Rattle.plat_events.specs.Views.{View, PlaceView, EntryOk, InvalidateStays, HeldView, HeldOk, view, view_of, session_view, place_view}
+use Rattle.plat_events.specs.Views.{held_view, agrees, translation_of}
 use Rattle.plat_events.specs.Kept.{word_at, private_of}
 use Rattle.plat_events.specs.Runs.{Fine}
 use Rattle.plat_fine_laws.specs.Changes.{KeepsPage}

@@ -1,5 +1,6 @@
 -- a scan's look at a mask keeps the invariant
-use Rattle.std.specs.Prelude.{◌≡◌, ℕ, zero, suc, ◌+◌, ◌<◌, ◌≤◌, ◌==◌, ◌&&◌, ◌||◌, not, nat_lt, if◌then◌else◌, Bool, true, false, List, [], ◌∷◌, length, drop, filter, cond, slice_index, slice_get, Some, None, IsTrue}
+use Rattle.std.specs.Prelude.{◌≡◌, ℕ, zero, suc, ◌+◌, ◌<◌, ◌≤◌, ◌==◌, ◌&&◌, ◌||◌, not, nat_lt, if◌then◌else◌, Bool, true, false, List, []}
+use Rattle.std.specs.Prelude.{◌∷◌, length, drop, filter, cond, slice_index, slice_get, Some, None, IsTrue}
 use Rattle.std.proofs.Common.{refl, ap, sym, arith, subst}
 use Rattle.std.specs.List.{list_any, list_all, range_with_len}
 use Rattle.std.proofs.lemmas.Bool.{and_parts, eqb-true}
@@ -30,7 +31,8 @@ use Rattle.plat_fine_laws.specs.Placed.{Scans}
 use Rattle.plat_fine_laws.proofs.PlacedLaws.{Scans-still}
 use Rattle.plat_fine_laws.proofs.WordLaws.{KeepsWords-loaded}
 use Rattle.plat_fine_laws.proofs.PrivateLaws.{private_of-get}
-use Rattle.plat_fine_laws.proofs.PlaceLaws.{looking-goes, look_place-goes, scan_from-goes, moves-on, IsPlain, plain-if, go_on-plain, plain_view, go_on-goes}
+use Rattle.plat_fine_laws.proofs.PlaceLaws.{looking-goes, look_place-goes, scan_from-goes, moves-on, IsPlain, plain-if, go_on-plain}
+use Rattle.plat_fine_laws.proofs.PlaceLaws.{plain_view, go_on-goes}
 use Rattle.plat_fine_laws.proofs.ReachedLaws.{reached-moved}
 use Rattle.plat_fine_laws.proofs.Footprints.{look-changes}
 use Rattle.plat_fine_laws.proofs.MovedLaws.{scanned-entries, shows-moved}

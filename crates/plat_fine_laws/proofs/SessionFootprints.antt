@@ -14,7 +14,9 @@ use Rattle.plat_events.specs.Words.{dir_word, stamp_word, data_word, without_low
 use Rattle.plat_events.specs.Places.{is_word}
 use Rattle.plat_events.specs.Operations.{written, told}
 use Rattle.plat_events.specs.Shootdowns.{Posting, PostingOn, Asking, Interrupting, Watching, AskingAgain, entry_posted, target_at}
-use Rattle.plat_events.specs.Sessions.{Stamp, Course, Phase, Stamping, Seeking, Taking, Returning, Shooting, Filling, Reading, Copying, Giving, Storing, Granting, Unlocking, Session, decision_of, entry_faulted, module_tried, memory_at, frame_going, last_stored, session_next, change_made}
+use Rattle.plat_events.specs.Sessions.{Stamp, Course, Phase, Stamping, Seeking, Taking, Returning, Shooting, Filling, Reading, Copying}
+use Rattle.plat_events.specs.Sessions.{Giving, Storing, Granting, Unlocking, Session, decision_of, entry_faulted, module_tried, memory_at}
+use Rattle.plat_events.specs.Sessions.{frame_going, last_stored, session_next, change_made}
 use Rattle.plat_events.specs.Privates.{Private, InSession}
 use Rattle.plat_events.specs.Events.{session_moved, session_item, is_followed, with_item}
 use Rattle.plat_events.specs.Kept.{word_at}

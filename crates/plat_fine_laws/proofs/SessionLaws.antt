@@ -1,5 +1,6 @@
 -- the session on a page is that of an actor, and what the actor alone says of it holds
-use Rattle.std.specs.Prelude.{◌≡◌, ℕ, zero, suc, ◌+◌, ◌<◌, if◌then◌else◌, Bool, true, false, List, [], ◌∷◌, length, Option, Some, None, slice_get}
+use Rattle.std.specs.Prelude.{◌≡◌, ℕ, zero, suc, ◌+◌, ◌<◌, if◌then◌else◌, Bool, true, false, List, [], ◌∷◌, length, Option, Some, None}
+use Rattle.std.specs.Prelude.{slice_get}
 use Rattle.std.specs.Prelude.{◌⊎◌}
 use Rattle.std.proofs.Common.{refl, ap, sym, ◌∙◌, inl, inr, arith, subst}
 use Rattle.std.specs.Option.{option_map}
@@ -10,13 +11,16 @@ use Rattle.plat_base.specs.Machine.{Machine}
 use Rattle.plat_base.specs.declared.items.Moment.{Moment}
 use Rattle.plat_base.specs.declared.items.Moment.TheVariants as moment
 use Rattle.plat_events.specs.Sessions.{Session}
-use Rattle.plat_events.specs.Privates.{Onward, NewTurn, TurnOver, Relock, Rewait, Place, Polling, Looking, Applying, Ticking, Switching, Loading, Expecting, Exchanging, Locking, InSession, Leaving, Lessening, Gone, LiveLooking, TimeLooking, Over, Private, actor_count, first_private}
-use Rattle.plat_events.specs.Kept.{Running, running_of, runs_on, session_on, session_of, session_behind, has_left, scan_left, activation_at, message_at, private_of}
+use Rattle.plat_events.specs.Privates.{Onward, NewTurn, TurnOver, Relock, Rewait, Place, Polling, Looking, Applying, Ticking, Switching}
+use Rattle.plat_events.specs.Privates.{Loading, Expecting, Exchanging, Locking, InSession, Leaving, Lessening, Gone, LiveLooking}
+use Rattle.plat_events.specs.Privates.{TimeLooking, Over, Private, actor_count, first_private}
+use Rattle.plat_events.specs.Kept.{Running, running_of, runs_on, session_on, session_of, session_behind, has_left, scan_left, activation_at}
+use Rattle.plat_events.specs.Kept.{message_at, private_of}
 use Rattle.plat_events.specs.Standings.{is_quiet}
 use Rattle.plat_events.specs.Runs.{Fine}
 use Rattle.plat_events.specs.Shown.{Shows}
-use Rattle.plat_local_laws.specs.Phases.{SessionOk}
 use Rattle.plat_local_laws.specs.Standing.{OnwardOk, PlaceOk, RewaitOk, leads_to}
+pub use Rattle.plat_local_laws.proofs.RunningLaws.{place-session as session-ok}
 use Rattle.plat_fine_laws.proofs.SessionOnLaws.{found_in, found_or, found_from, found_from-first}
 
 -- ---- the actor of a session
@@ -110,26 +114,6 @@ onward-session m answer a p NewTurn x ok is = absurd cc
 onward-session m answer a p TurnOver x ok is = absurd cc
 onward-session m answer a p (Relock fault) x ok is = absurd cc
 onward-session m answer a p (Rewait y) x ok is = let same : y ≡ x = cc in subst (RewaitOk m answer a p) same ok
-
-pub session-ok :
-    (m : Machine) (answer : Answer) (a : ℕ) (p : Private) (place : Place) (x : Session) → PlaceOk m answer a p place →
-    session_of place ≡ Some x → SessionOk m answer a p x
-session-ok m answer a p (Polling onward) x ok is = (onward-session m answer a p onward x ok.behind is).session
-session-ok m answer a p (Looking i moment onward) x ok is = (onward-session m answer a p onward x ok.behind is).session
-session-ok m answer a p (Applying i msg moment onward) x ok is = (onward-session m answer a p onward x ok.behind is).session
-session-ok m answer a p Ticking x ok is = absurd cc
-session-ok m answer a p (Switching space) x ok is = absurd cc
-session-ok m answer a p Loading x ok is = absurd cc
-session-ok m answer a p Expecting x ok is = absurd cc
-session-ok m answer a p (Exchanging seen) x ok is = absurd cc
-session-ok m answer a p (Locking fault) x ok is = absurd cc
-session-ok m answer a p (InSession y) x ok is = let same : y ≡ x = cc in subst (SessionOk m answer a p) same ok
-session-ok m answer a p (Leaving e) x ok is = absurd cc
-session-ok m answer a p (Lessening e) x ok is = absurd cc
-session-ok m answer a p (Gone e) x ok is = absurd cc
-session-ok m answer a p LiveLooking x ok is = absurd cc
-session-ok m answer a p TimeLooking x ok is = absurd cc
-session-ok m answer a p Over x ok is = absurd cc
 
 -- ---- where an actor with a session stands
 

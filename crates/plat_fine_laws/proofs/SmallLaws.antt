@@ -1,9 +1,10 @@
 -- the words of flat memory are numbers of 32 bits, in every state with the invariant
-use Rattle.std.specs.Prelude.{◌≡◌, ℕ, zero, suc, ◌+◌, ◌/◌, ◌<◌, ◌==◌, nat_lt, ◌&&◌, ◌||◌, not, if◌then◌else◌, Bool, true, false, List, [], ◌∷◌, ◌++◌, cond, slice_index, slice_get, is_some, Option, Some, None}
+use Rattle.std.specs.Prelude.{◌≡◌, ℕ, zero, suc, ◌+◌, ◌/◌, ◌<◌, ◌==◌, nat_lt, ◌&&◌, ◌||◌, not, if◌then◌else◌, Bool, true, false, List, []}
+use Rattle.std.specs.Prelude.{◌∷◌, ◌++◌, cond, slice_index, slice_get, is_some, Option, Some, None}
 use Rattle.std.proofs.Common.{refl, sym, ◌∙◌, arith, subst}
 use Rattle.std.specs.List.{fold, list_all}
 use Rattle.std.specs.Option.{option_map_or}
-use Rattle.std.proofs.lemmas.Bool.{and_parts, eq-eqb}
+use Rattle.std.proofs.lemmas.Bool.{and_parts, eq-eqb, or_right}
 use Rattle.std.proofs.lemmas.Bool.Decides.{nat_tests}
 use Rattle.plat_base.specs.Verdicts.{Answer}
 use Rattle.plat_base.specs.Machine.{Machine, is_number}
@@ -23,10 +24,13 @@ use Rattle.plat_base.specs.declared.items.Item.{Item}
 use Rattle.plat_base.specs.declared.items.Item.TheVariants as item
 use Rattle.plat_base.proofs.LimitLemmas.{initial_value-below}
 use Rattle.plat_laws.specs.Guests.{IsWithinLimits}
-use Rattle.plat_laws.proofs.AccessLaws.{both_here, access_parts}
+use Rattle.plat_laws.proofs.AccessLaws.{access_parts}
 use Rattle.plat_events.specs.Words.{value_read}
-use Rattle.plat_events.specs.Sessions.{Stamping, Seeking, Taking, Returning, Shooting, Filling, Reading, Copying, Giving, Storing, Granting, Unlocking, Session, Phase}
-use Rattle.plat_events.specs.Privates.{Place, Polling, Looking, Applying, Ticking, Switching, Loading, Expecting, Exchanging, Locking, InSession, Leaving, Lessening, Gone, LiveLooking, TimeLooking, Over, Private, translation_at, actor_count}
+use Rattle.plat_events.specs.Sessions.{Stamping, Seeking, Taking, Returning, Shooting, Filling, Reading, Copying, Giving, Storing, Granting}
+use Rattle.plat_events.specs.Sessions.{Unlocking, Session, Phase}
+use Rattle.plat_events.specs.Privates.{Place, Polling, Looking, Applying, Ticking, Switching, Loading, Expecting, Exchanging, Locking}
+use Rattle.plat_events.specs.Privates.{InSession, Leaving, Lessening, Gone, LiveLooking, TimeLooking, Over, Private, translation_at}
+use Rattle.plat_events.specs.Privates.{actor_count}
 use Rattle.plat_events.specs.Scans.{entry_scanned}
 use Rattle.plat_events.specs.Events.{reach_now, item_at, session_item, access_made, with_item}
 use Rattle.plat_events.specs.Kept.{private_of}
@@ -38,7 +42,9 @@ use Rattle.plat_local_laws.specs.Standing.{PlaceOk}
 use Rattle.plat_local_laws.proofs.AloneLaws.{after-followed, IsKept, alone-keeps}
 use Rattle.plat_local_laws.proofs.PrivateLaws.{private_ok}
 use Rattle.plat_fine_laws.proofs.ReachedLaws.{reached-more}
-use Rattle.plat_fine_laws.proofs.GoodLaws.{good-items}
+use Rattle.plat_local_laws.proofs.WordLaws.{new_value-below}
+use Rattle.plat_base.proofs.RuleLemmas.{bad_at-none}
+use Rattle.plat_laws.proofs.HistoryLaws.{good-items}
 
 -- what an item writes is a number of 32 bits
 abbrev pub is_small : Item → Bool
@@ -106,16 +112,7 @@ operand-small m a p small wants =
     (reach_now m a p).addr
     (reach_now m a p).operand small wants
 
-new_value-small : (k : Kind) (old operand : ℕ) → old < 4294967296 → operand < 4294967296 → new_value k old operand < 4294967296
-new_value-small kind.Load old operand h g = h
-new_value-small kind.Store old operand h g = g
-new_value-small kind.Add old operand h g = omega arith
-
 -- ---- the items of one actor
-
-or_second : (b c : Bool) → c ≡ true → (b || c) ≡ true
-or_second true c h = refl
-or_second false c h = h
 
 made-small : (m : Machine) (a : ℕ) (p : Private) (n : ℕ) → list_all is_number p.guest.registers ≡ true → WantsAccess m a p →
     is_small (access_made m a p n) ≡ true
@@ -123,8 +120,8 @@ made-small m a p n small wants =
     let r = reach_now m a p in
     let below : value_read n < 4294967296 = bits_from-below n 0 32 in
     let new : new_value r.kind (value_read n) r.operand < 4294967296 =
-    new_value-small r.kind (value_read n) r.operand below (operand-small m a p small wants) in
-    or_second (not (is_write r.kind)) (is_number (new_value r.kind (value_read n) r.operand)) (grind (arith, nat_tests))
+    new_value-below r.kind (value_read n) r.operand below (operand-small m a p small wants) in
+    or_right (not (is_write r.kind)) (is_number (new_value r.kind (value_read n) r.operand)) (grind (arith, nat_tests))
 
 if-small : (b : Bool) (i : Item) → is_small i ≡ true → option_map_or is_small (if b then Some i else None) true ≡ true
 if-small true i h = h
@@ -199,7 +196,7 @@ actors-good :
     list_all (λ i. is_small i || nat_lt (actor_of i) m.nodes) items ≡ true
 actors-good m answer before k [] good = refl
 actors-good m answer before k (i ∷ is) good =
-    let parts = both_here k (bad_rule m answer before i) (bad_after m answer (before ++ i ∷ []) (k + 1) is) good in
+    let parts = bad_at-none k (bad_rule m answer before i) (bad_after m answer (before ++ i ∷ []) (k + 1) is) good in
     rw (one i parts.0) (actors-good m answer (before ++ i ∷ []) (k + 1) is parts.1)
   where
     one : (i : Item) → bad_rule m answer before i ≡ None → (is_small i || nat_lt (actor_of i) m.nodes) ≡ true
@@ -207,7 +204,7 @@ actors-good m answer before k (i ∷ is) good =
         let ordered = (access_parts m answer before x ok).0 in
         let both =
         and_parts (nat_lt x.actor m.nodes && is_frame m x.frame) (is_access_next (next_operation m before x.actor) x) ordered in
-        or_second (is_small (item.Access x)) (nat_lt x.actor m.nodes) (and_parts (nat_lt x.actor m.nodes) (is_frame m x.frame) both.0).0
+        or_right (is_small (item.Access x)) (nat_lt x.actor m.nodes) (and_parts (nat_lt x.actor m.nodes) (is_frame m x.frame) both.0).0
     one (item.Change c) ok = refl
     one (item.Applied x) ok = refl
     one (item.Switch x) ok = refl

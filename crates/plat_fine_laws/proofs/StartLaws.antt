@@ -1,5 +1,6 @@
 -- the invariant holds at the start of every machine within its limits
-use Rattle.std.specs.Prelude.{◌≡◌, ◌≢◌, ℕ, zero, suc, ◌+◌, ◌<◌, ◌≤◌, ◌==◌, nat_lt, nat_le, ◌&&◌, not, if◌then◌else◌, Bool, true, false, List, [], ◌∷◌, map, take, length, find, cond, Option, Some, None, is_some, IsTrue}
+use Rattle.std.specs.Prelude.{◌≡◌, ◌≢◌, ℕ, zero, suc, ◌+◌, ◌<◌, ◌≤◌, ◌==◌, nat_lt, nat_le, ◌&&◌, not, if◌then◌else◌, Bool, true, false}
+use Rattle.std.specs.Prelude.{List, [], ◌∷◌, map, take, length, find, cond, Option, Some, None, is_some, IsTrue}
 use Rattle.std.proofs.Common.{refl, ap, sym, ◌∙◌, arith}
 use Rattle.std.specs.List.{sum_by, count_by, filter_map, enumerate_from, range_with_len, cons_option}
 use Rattle.std.specs.Option.{option_map, option_map_or}
@@ -22,30 +23,32 @@ use Rattle.plat_base.specs.declared.words.WordName.TheVariants as word
 use Rattle.plat_laws.specs.Guests.{IsWithinLimits}
 use Rattle.plat_laws.proofs.GuestLaws.{IsGuest-start}
 use Rattle.plat_laws.proofs.EndLaws.{is_end-cut, first_bad-none}
-use Rattle.plat_events.specs.Words.{has_bit, has_reference, has_invalidate, has_restrict, invalidate_place, restrict_place, is_locked, dir_read}
+use Rattle.plat_events.specs.Words.{has_bit, has_reference, has_invalidate, has_restrict, invalidate_place, restrict_place, is_locked}
+use Rattle.plat_events.specs.Words.{dir_read}
 use Rattle.plat_events.specs.Places.{entry_count}
 use Rattle.plat_events.specs.Sessions.{Session}
-use Rattle.plat_events.specs.Privates.{Private, Place, LiveLooking, Polling, NewTurn, is_over, translation_at, actor_count, first_place, first_private, first_privates}
+use Rattle.plat_events.specs.Privates.{Private, Place, LiveLooking, Polling, NewTurn, is_over, translation_at, actor_count, first_place}
+use Rattle.plat_events.specs.Privates.{first_private, first_privates}
 use Rattle.plat_events.specs.Kept.{Running, running_of, runs_on, session_on, session_of, has_left, message_at, word_at, private_of}
-use Rattle.plat_events.specs.Views.{Nobody, View, EntryOk, HeldView, HeldOk, InvalidateStays, is_restrict, session_view, view, held_view, translation_of}
+use Rattle.plat_events.specs.Views.{Nobody, View, EntryOk, HeldView, HeldOk, InvalidateStays, is_restrict, session_view, view, held_view}
+use Rattle.plat_events.specs.Views.{translation_of}
 use Rattle.plat_events.specs.Runs.{fine_start, end_at, ended_by, ends_of}
 use Rattle.plat_events.specs.Shown.{bit_of, is_hand, uses_of, act_of, stamp_by, goes_to, IsReachedAlone, Shows}
 use Rattle.plat_words.proofs.SingleBits.{has_bit-above}
-use Rattle.plat_fine_laws.proofs.StartWordLaws.{first_words-length, act-start, dir-start, stamp-start, cmap-start, pool-start, encoded-start, dir_read-zero, has_bit-full}
+use Rattle.plat_fine_laws.proofs.StartWordLaws.{first_words-length, act-start, dir-start, stamp-start, cmap-start, pool-start}
+use Rattle.plat_fine_laws.proofs.StartWordLaws.{encoded-start, dir_read-zero, has_bit-full}
+use Rattle.plat_words.proofs.Masks.{has_bit-none}
 
 -- ---- views without a translation
 
-empty_ok : (v : View) → v.has ≡ false → v.invalidate ≡ false → v.restrict ≡ false → v.restricting ≡ false → EntryOk v
+pub empty_ok : (v : View) → v.has ≡ false → v.invalidate ≡ false → v.restrict ≡ false → v.restricting ≡ false → EntryOk v
 empty_ok v h0 h1 h2 h3 = search arith
 
-empty_waits : (v : View) → v.invalidating ≡ false → InvalidateStays v
+pub empty_waits : (v : View) → v.invalidating ≡ false → InvalidateStays v
 empty_waits v h0 = search arith
 
 empty_held : (v : View) (h : HeldView) → v.has ≡ false → v.whose ≡ Nobody → h.held ≡ false → HeldOk v h
 empty_held v h h0 h1 h2 = search arith
-
-no_bit : (i : ℕ) → has_bit 0 i ≡ false
-no_bit i = has_bit-above 0 0 i (omega arith) (omega arith)
 
 -- ---- the private states at the start
 
@@ -59,22 +62,8 @@ record IsFirst (place : Place) : Type 0 where
   message : (m : Machine) (p : Private) → message_at m p place ≡ None
 
 first-if : (b : Bool) → IsFirst (if b then LiveLooking else Polling NewTurn)
-first-if true = record {
-  session = refl;
-  over = refl;
-  left = refl;
-  ended = refl;
-  framed = λ e. absurd cc;
-  message = λ m p. refl;
-}
-first-if false = record {
-  session = refl;
-  over = refl;
-  left = refl;
-  ended = refl;
-  framed = λ e. absurd cc;
-  message = λ m p. refl;
-}
+first-if true = search arith
+first-if false = search arith
 
 first : (m : Machine) (a : ℕ) → IsFirst (first_place m a)
 first m a = first-if (a == m.nodes)
@@ -195,8 +184,8 @@ module _ (m : Machine) (answer : Answer) (limits : IsWithinLimits m) where
     views-start : EntryOk (view m answer (fine_start m) q e)
     views-start =
         empty_ok (view m answer (fine_start m) q e) (ap is_some no_translation)
-        (ap (λ n. has_invalidate n q) mask-start ∙ no_bit (invalidate_place q))
-        (ap (λ n. has_restrict n q) mask-start ∙ no_bit (restrict_place q))
+        (ap (λ n. has_invalidate n q) mask-start ∙ has_bit-none (invalidate_place q))
+        (ap (λ n. has_restrict n q) mask-start ∙ has_bit-none (restrict_place q))
         (ap (λ (o : Option (ℕ × Message)). option_map_or (λ (x : ℕ × Message). x.0 == e && is_restrict x.1) o false) no_message)
 
     waits-start : InvalidateStays (view m answer (fine_start m) q e)
@@ -211,7 +200,7 @@ module _ (m : Machine) (answer : Answer) (limits : IsWithinLimits m) where
         refl
 
     reference-start : has_reference (word_at m (fine_start m) (word.Cmap e)) q ≡ is_some (translation_of m (fine_start m) q e)
-    reference-start = ap (λ n. has_reference n q) mask-start ∙ (no_bit q ∙ sym (ap is_some no_translation))
+    reference-start = ap (λ n. has_reference n q) mask-start ∙ (has_bit-none q ∙ sym (ap is_some no_translation))
 
   -- no session is on a page
   nobody-runs : {A : Type 0} (page : ℕ) (r : Running) → session_on (first_privates m) page ≡ Some r → A

@@ -18,7 +18,8 @@ use Rattle.plat_events.specs.Kept.{word_at, private_of}
 use Rattle.plat_events.specs.Views.{EntryOk, HeldOk, InvalidateStays, view, held_view, place_view, translation_of}
 use Rattle.plat_events.specs.Runs.{Fine, ends_of}
 use Rattle.plat_events.specs.Shown.{act_of, frame_word, IsReachedAlone, Shows}
-use Rattle.plat_fine_laws.specs.Changes.{Changes, KeepsPage, KeepsFlat, KeepsEntry, Stays, LeavesPages, KeepsPageWords, ShowsFlat, AreEntriesOk, LeavesDirs, ShowsEntries, is_table_word, is_page_word}
+use Rattle.plat_fine_laws.specs.Changes.{Changes, KeepsPage, KeepsFlat, KeepsEntry, Stays, LeavesPages, KeepsPageWords, ShowsFlat}
+use Rattle.plat_fine_laws.specs.Changes.{AreEntriesOk, LeavesDirs, ShowsEntries, is_table_word, is_page_word}
 use Rattle.plat_fine_laws.specs.Placed.{placed, Scans}
 use Rattle.plat_fine_laws.proofs.PlacedLaws.{placed_ok, placed_waits, placed_held, left_ok, left_waits, view-placed, held_view-still}
 use Rattle.plat_fine_laws.proofs.KeepLaws
@@ -75,33 +76,33 @@ module _ (m : Machine) (answer : Answer) (s t : Fine) (a : ℕ) (name : WordName
       by (inl same) = rw same (own (rw same at inside) e below)
       by (inr apart) = others q e apart inside below
 
+  mask : KeepsPageWords m s t → (e : ℕ) → e < entry_count m → word_at m t (word.Cmap e) ≡ word_at m s (word.Cmap e)
+  mask words e below = words (word.Cmap e) refl (grind (arith, nat_tests))
+
+  seen : KeepsPageWords m s t → (e : ℕ) → e < entry_count m → view m answer t a e ≡ placed (place_view m p e) (view m answer s a e)
+  seen words e below =
+      view-placed m answer s t a e (keeps-page (page_of m e)) (mask words e below) (translation-same a e)
+      ∙ ap (λ (x : Private). placed (place_view m x e) (view m answer s a e)) new
+
+  held-same : KeepsPageWords m s t → (e : ℕ) → e < entry_count m → held_view m t a e ≡ held_view m s a e
+  held-same words e below =
+      held_view-still m answer s t a e (keeps-page (page_of m e)) (mask words e below) (translation-same a e) (leaves.held a e)
+
   -- the actor's own entries stay as they have to be where it goes on in a scan
   pub scanned-entries :
       KeepsPageWords m s t →
       ((e : ℕ) → Scans (word_at m s (word.Cmap e)) a (place_view m (private_of m s a) e) (place_view m p e)) →
       a < m.nodes → AreEntriesOk m answer t a
   scanned-entries words scans inside = record {
-    views = λ e below. rw (seen e below)
+    views = λ e below. rw (seen words e below)
         (placed_ok (view m answer s a e) (place_view m p e) (shows.views a e inside below) (scans e).active (scans e).passes
         (scans e).restricts);
-    invalidates_stay = λ e below. rw (seen e below)
+    invalidates_stay = λ e below. rw (seen words e below)
         (placed_waits (view m answer s a e) (place_view m p e) (shows.views a e inside below) (shows.invalidates_stay a e inside below)
         (scans e).invalidates);
-    held_is_pmap = λ e below. rw (seen e below, held-same e below)
+    held_is_pmap = λ e below. rw (seen words e below, held-same words e below)
         (placed_held (view m answer s a e) (place_view m p e) (held_view m s a e) (shows.held_is_pmap a e inside below));
   }
-    where
-      mask : (e : ℕ) → e < entry_count m → word_at m t (word.Cmap e) ≡ word_at m s (word.Cmap e)
-      mask e below = words (word.Cmap e) refl (grind (arith, nat_tests))
-
-      seen : (e : ℕ) → e < entry_count m → view m answer t a e ≡ placed (place_view m p e) (view m answer s a e)
-      seen e below =
-          view-placed m answer s t a e (keeps-page (page_of m e)) (mask e below) (translation-same a e)
-          ∙ ap (λ (x : Private). placed (place_view m x e) (view m answer s a e)) new
-
-      held-same : (e : ℕ) → e < entry_count m → held_view m t a e ≡ held_view m s a e
-      held-same e below =
-          held_view-still m answer s t a e (keeps-page (page_of m e)) (mask e below) (translation-same a e) (leaves.held a e)
 
   -- or it leaves its space
   pub left-entries :
@@ -110,28 +111,17 @@ module _ (m : Machine) (answer : Answer) (s t : Fine) (a : ℕ) (name : WordName
       ((place_view m p e).invalidating ≡ false)) →
       a < m.nodes → AreEntriesOk m answer t a
   left-entries words leaves_entry inside = record {
-    views = λ e below. rw (seen e below)
+    views = λ e below. rw (seen words e below)
         (left_ok (view m answer s a e) (place_view m p e) (shows.views a e inside below) (leaves_entry e below).0
         (leaves_entry e below).1);
-    invalidates_stay = λ e below. rw (seen e below) (left_waits (view m answer s a e) (place_view m p e) (leaves_entry e below).2);
-    held_is_pmap = λ e below. rw (seen e below, held-same e below)
+    invalidates_stay = λ e below. rw (seen words e below) (left_waits (view m answer s a e) (place_view m p e) (leaves_entry e below).2);
+    held_is_pmap = λ e below. rw (seen words e below, held-same words e below)
         (placed_held (view m answer s a e) (place_view m p e) (held_view m s a e) (shows.held_is_pmap a e inside below));
   }
-    where
-      mask : (e : ℕ) → e < entry_count m → word_at m t (word.Cmap e) ≡ word_at m s (word.Cmap e)
-      mask e below = words (word.Cmap e) refl (grind (arith, nat_tests))
-
-      seen : (e : ℕ) → e < entry_count m → view m answer t a e ≡ placed (place_view m p e) (view m answer s a e)
-      seen e below =
-          view-placed m answer s t a e (keeps-page (page_of m e)) (mask e below) (translation-same a e)
-          ∙ ap (λ (x : Private). placed (place_view m x e) (view m answer s a e)) new
-
-      held-same : (e : ℕ) → e < entry_count m → held_view m t a e ≡ held_view m s a e
-      held-same e below =
-          held_view-still m answer s t a e (keeps-page (page_of m e)) (mask e below) (translation-same a e) (leaves.held a e)
 
   -- the words of frames are flat memory's where neither they nor it changed
-  pub flat-kept : ((page w : ℕ) → KeepsFlat m s t page w) → ((f : Frame) (w : ℕ) → frame_word m t f w ≡ frame_word m s f w) → ShowsFlat m answer t
+  pub flat-kept : ((page w : ℕ) → KeepsFlat m s t page w) → ((f : Frame) (w : ℕ) → frame_word m t f w ≡ frame_word m s f w) →
+      ShowsFlat m answer t
   flat-kept = KeepLaws.flat-kept m answer s t a name number p made shows within changes stays.running dirs
 
   shown : KeepsPageWords m s t → (a < m.nodes → AreEntriesOk m answer t a) → ShowsEntries m answer t
@@ -164,6 +154,7 @@ module _ (m : Machine) (answer : Answer) (s t : Fine) (a : ℕ) (name : WordName
       (a < m.nodes → AreEntriesOk m answer t a) → Good m answer t.history (ends_of m t.privates) → IsReachedAlone m answer a p →
       Shows m answer t
   shows-stayed named encoded words turns later_time past live acts flat own good reached =
-      KeepLaws.shows-kept m answer s t a name number p made shows within changes stays.running dirs stays.journal stays.own stays.framed named
+      KeepLaws.shows-kept m answer s t a name number p made shows within changes stays.running dirs stays.journal stays.own stays.framed
+      named
       encoded (λ other table there. words other (table-page other table) there) turns later_time past live acts flat
       (shown words own) good reached

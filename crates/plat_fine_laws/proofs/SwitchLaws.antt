@@ -1,14 +1,15 @@
 -- a switch to another space keeps the invariant: no entry is usable before the scan that follows has passed it
-use Rattle.std.specs.Prelude.{◌≡◌, ℕ, ◌+◌, ◌*◌, ◌<◌, ◌==◌, nat_lt, ◌&&◌, not, if◌then◌else◌, Bool, true, false, List, [], ◌∷◌, ◌++◌, length, drop, slice_get, Option, Some, None, IsTrue}
+use Rattle.std.specs.Prelude.{◌≡◌, ℕ, ◌+◌, ◌*◌, ◌<◌, ◌==◌, nat_lt, ◌&&◌, not, if◌then◌else◌, Bool, true, false, List, [], ◌∷◌, ◌++◌, length}
+use Rattle.std.specs.Prelude.{drop, slice_get, Option, Some, None, IsTrue}
 use Rattle.std.proofs.Common.{refl, ap, sym, ◌∙◌, arith, subst}
 use Rattle.std.specs.List.{list_any}
-use Rattle.std.specs.Option.{option_map, option_map_or}
+use Rattle.std.specs.Option.{option_map_or}
 use Rattle.std.proofs.lemmas.Bool.Decides.{nat_tests}
 use Rattle.plat_base.specs.Verdicts.{Answer}
 use Rattle.plat_base.specs.Machine.{Machine}
 use Rattle.plat_base.specs.Pages.{space_of, entries_of_space}
 use Rattle.plat_base.specs.Flat.{flat_value, flat_writes}
-use Rattle.plat_base.specs.Rules.{Good, bad_rule, is_end}
+use Rattle.plat_base.specs.Rules.{Good, bad_rule}
 use Rattle.plat_base.specs.declared.limits.TheConstants.{SPACES}
 use Rattle.plat_base.specs.declared.items.Item.{Item}
 use Rattle.plat_base.specs.declared.items.Item.TheVariants as item
@@ -18,31 +19,29 @@ use Rattle.plat_base.specs.declared.items.Switch.{Switch}
 use Rattle.plat_base.specs.declared.words.Op.TheVariants as op
 use Rattle.plat_base.specs.declared.words.WordName.TheVariants as word
 use Rattle.plat_laws.specs.Guests.{IsWithinLimits}
-use Rattle.plat_laws.proofs.ItemLaws.{dir_of-switch, seq_of-switch, last_of-switch, held-switch, later-switch, flat_value-switch, flat_writes-switch}
+use Rattle.plat_laws.proofs.ItemLaws.{dir_of-switch, seq_of-switch, last_of-switch, held-switch, later-switch, flat_value-switch}
+use Rattle.plat_laws.proofs.ItemLaws.{flat_writes-switch}
 use Rattle.plat_laws.proofs.GuestLaws.{space_after, space-guest_after}
 use Rattle.plat_events.specs.Places.{entry_count, place_of, is_name, is_word}
-use Rattle.plat_events.specs.Sessions.{Session}
 use Rattle.plat_events.specs.Privates.{Place, TurnOver, Looking, Switching, Private, actor_count, is_over}
 use Rattle.plat_events.specs.Scans.{go_on, scan_from}
 use Rattle.plat_events.specs.Events.{at, switched, with_item}
 use Rattle.plat_events.specs.Kept.{session_of, has_left, activation_at, is_unscanned, message_at, word_at, private_of}
 use Rattle.plat_events.specs.Views.{is_restrict, place_view}
-use Rattle.plat_events.specs.Runs.{Fine, event, end_at, ends_of}
-use Rattle.plat_events.specs.Shown.{actor_of, items_by, act_of, IsReachedAlone, Shows}
+use Rattle.plat_events.specs.Runs.{Fine, event, ends_of}
+use Rattle.plat_events.specs.Shown.{act_of, IsReachedAlone, Shows}
 use Rattle.plat_local_laws.specs.Numbers.{is_in_turn}
 use Rattle.plat_local_laws.specs.Standing.{PlaceOk, SwitchingOk}
 use Rattle.plat_local_laws.specs.Alone.{PrivateOk}
 use Rattle.plat_local_laws.proofs.PrivateLaws.{private_ok}
-use Rattle.plat_local_laws.proofs.OrderLaws.{cut_in_order}
 use Rattle.plat_local_laws.proofs.RuleLaws.{ordered_switch}
 use Rattle.plat_local_laws.proofs.SpaceLaws.{switch-space}
-use Rattle.plat_fine_laws.specs.Changes.{Changes, GoesOn, KeepsFlat, IsBy, Stays, LeavesPages}
+use Rattle.plat_fine_laws.specs.Changes.{Changes, GoesOn, KeepsFlat, Stays, LeavesPages}
 use Rattle.plat_fine_laws.proofs.WordLaws.{behind-kept, page_words-kept, named-kept, word_at-new}
 use Rattle.plat_fine_laws.proofs.PrivateLaws.{private_of-get}
 use Rattle.plat_fine_laws.proofs.ActorFieldLaws.{each-private}
-use Rattle.plat_fine_laws.proofs.JournalLaws.{items_by-own}
+use Rattle.plat_fine_laws.proofs.MadeLaws.{stays-made, good-made}
 use Rattle.plat_fine_laws.proofs.EndFieldLaws.{turns-still, live-still}
-use Rattle.plat_fine_laws.proofs.GoodLaws.{good-next}
 use Rattle.plat_fine_laws.proofs.PlaceLaws.{IsPlain, go_on-plain, scan_from-goes}
 use Rattle.plat_fine_laws.proofs.ReachedLaws.{reached-moved}
 use Rattle.plat_fine_laws.proofs.AloneLaws.{alone_ok}
@@ -107,22 +106,8 @@ module _ (m : Machine) (answer : Answer) (s : Fine) (a space : ℕ) (limits : Is
   moved-space : next.guest.space ≡ space
   moved-space = space-guest_after m a (private_of m s a).guest 0 ∙ ap (space_after (private_of m s a).guest.space) switching.wants
 
-  own : IsBy a (Some made)
-  own = λ i is. ap actor_of (same_item i is)
-    where
-      same_item : (i : Item) → Some made ≡ Some i → i ≡ made
-      same_item i is = cc
-
   stays : Stays m a (private_of m s a) next (Some made)
-  stays = record {
-    pmap = refl;
-    running =
-        ap (option_map (λ (x : Session). record { actor = a; now = (private_of m s a).now; session = x })) goes.session
-        ∙ sym (ap (option_map (λ (x : Session). record { actor = a; now = (private_of m s a).now; session = x })) (ap session_of stands));
-    journal = refl;
-    own = own;
-    framed = λ enough. goes.framed;
-  }
+  stays = stays-made m a (private_of m s a) next made refl (ap session_of stands) goes refl refl refl
 
   leaves : LeavesPages m s.history (event m answer s a).history
   leaves = subst (LeavesPages m s.history) (sym changes.history) (leaves-switch m s.history (record { actor = a; space = space }))
@@ -182,19 +167,9 @@ module _ (m : Machine) (answer : Answer) (s : Fine) (a space : ℕ) (limits : Is
 
   good : Good m answer (event m answer s a).history (ends_of m (event m answer s a).privates)
   good =
-      let journal : items_by a (with_item s.history (Some made)) ≡ next.journal =
-      items_by-own a s.history (Some made) own ∙ ap (λ j. with_item j (Some made)) (sym (shows.journals_are_history a within)) in
-      let cut : is_end m (with_item s.history (Some made)) a (end_at next.place) next.turns ≡ true =
-      ap (λ e. is_end m (with_item s.history (Some made)) a e next.turns) goes.ended
-      ∙ cut_in_order m answer a next (with_item s.history (Some made)) alone_after switching.processor (sym journal) in
-      let ok = good-next m s.privates a (private_of m s a) next switching.processor (omega
-      (arith, shows.all_privates)) here answer s.history
-      (Some made) shows.history_good own (λ i is. subst (λ j. bad_rule m answer s.history j ≡ None) (same_item i is) ordered)
-      alone_after.standing.turns_most cut in
-      rw (changes.history, changes.privates) ok
-    where
-      same_item : (i : Item) → Some made ≡ Some i → made ≡ i
-      same_item i is = cc
+      good-made m answer s (event m answer s a) a (word.Act a) (space + 1)
+      next made shows within switching.processor changes stays.own refl ordered alone_after
+      goes.ended
 
   acts : (q : ℕ) → q < m.nodes → word_at m (event m answer s a) (word.Act q) ≡ act_of (private_of m (event m answer s a) q)
   acts q nodes =

@@ -1,14 +1,17 @@
 -- what a decision removes, by the state of the page before it
-use Rattle.std.specs.Prelude.{◌≡◌, ◌≢◌, ℕ, ◌+◌, ◌≤◌, ◌==◌, nat_lt, not, Bool, true, false, List, [], ◌∷◌, filter, cond, Option, Some, is_some, is_none}
+use Rattle.std.specs.Prelude.{◌≡◌, ◌≢◌, ℕ, ◌+◌, ◌≤◌, ◌==◌, nat_lt, not, Bool, true, false, List, [], ◌∷◌, filter, cond, Option, Some}
+use Rattle.std.specs.Prelude.{is_some, is_none}
 use Rattle.std.specs.Prelude.{◌⊎◌, ◌||◌}
 use Rattle.std.proofs.Common.{refl, ap, sym, ◌∙◌, inl, inr, arith, subst}
 use Rattle.std.specs.List.{list_any}
-use Rattle.std.proofs.lemmas.Bool.{and_parts, eqb-true, eq-eqb, ne_eqb, not-true, true≢false, cond-true, cond-false}
+use Rattle.std.proofs.lemmas.Bool.{and_parts, eqb-true, eq-eqb, ne_eqb, not-true, true≢false, cond-true, cond-false, or_cases}
 use Rattle.std.proofs.lemmas.Bool.Decides.{nat_tests}
+use Rattle.std.proofs.Math.Bool.{or-true}
 use Rattle.plat_base.specs.Verdicts.{Answer}
 use Rattle.plat_base.specs.Machine.{Machine}
 use Rattle.plat_base.specs.Copies.{same_frame, copy_on}
-use Rattle.plat_base.specs.Decide.{row_of, row_does, decide, asks, moves_page, frozen_after, is_empty, is_dir, modules_rise, may_decide, fits_cause}
+use Rattle.plat_base.specs.Decide.{row_of, row_does, decide, asks, moves_page, frozen_after, is_empty, is_dir, modules_rise, may_decide}
+use Rattle.plat_base.specs.Decide.{fits_cause}
 use Rattle.plat_base.specs.declared.frames.Frame.{Frame}
 use Rattle.plat_base.specs.declared.frames.Dir.{Dir}
 use Rattle.plat_base.specs.declared.frames.State.{State}
@@ -21,42 +24,19 @@ use Rattle.plat_base.proofs.CopiesLemmas.{same_frame-itself}
 use Rattle.plat_laws.proofs.TableLaws.{decide_facts, dir_parts}
 use Rattle.plat_events.specs.Sessions.{going}
 use Rattle.plat_events.specs.Kept.{is_copy_of}
+use Rattle.plat_laws.proofs.SameLaws.{same_frame-true}
 
 -- ---- the rows
 
 row-writes :
     (m : Machine) (dir : Dir) (frozen : Bool) (node : ℕ) (got : Option Frame) (c : Cause) (st : State) (here moves : Bool) →
     (row_does m (row_of c st here moves) dir frozen node got).removed ≡ removed.Writes → st ≡ state.Modified
-row-writes m dir frozen node got cause.Read state.Empty here moves h = absurd cc
-row-writes m dir frozen node got cause.Read state.Present1 true moves h = absurd cc
-row-writes m dir frozen node got cause.Read state.Present1 false true h = absurd cc
-row-writes m dir frozen node got cause.Read state.Present1 false false h = absurd cc
-row-writes m dir frozen node got cause.Read state.PresentPlus true moves h = absurd cc
-row-writes m dir frozen node got cause.Read state.PresentPlus false true h = absurd cc
-row-writes m dir frozen node got cause.Read state.PresentPlus false false h = absurd cc
-row-writes m dir frozen node got cause.Read state.Modified here moves h = refl
-row-writes m dir frozen node got cause.Write state.Empty here moves h = absurd cc
-row-writes m dir frozen node got cause.Write state.Present1 true moves h = absurd cc
-row-writes m dir frozen node got cause.Write state.Present1 false true h = absurd cc
-row-writes m dir frozen node got cause.Write state.Present1 false false h = absurd cc
-row-writes m dir frozen node got cause.Write state.PresentPlus true moves h = absurd cc
-row-writes m dir frozen node got cause.Write state.PresentPlus false true h = absurd cc
-row-writes m dir frozen node got cause.Write state.PresentPlus false false h = absurd cc
-row-writes m dir frozen node got cause.Write state.Modified here moves h = refl
-row-writes m dir frozen node got cause.Thaw st here moves h = absurd cc
+row-writes m dir frozen node got c st here moves h = search arith
 
 row-all :
     (m : Machine) (dir : Dir) (frozen : Bool) (node : ℕ) (got : Option Frame) (c : Cause) (st : State) (here moves : Bool) →
     c ≢ cause.Thaw → (row_does m (row_of c st here moves) dir frozen node got).removed ≡ removed.All → st ≢ state.Empty
-row-all m dir frozen node got cause.Read state.Empty here moves fault h = absurd cc
-row-all m dir frozen node got cause.Read state.Present1 here moves fault h = λ e. absurd cc
-row-all m dir frozen node got cause.Read state.PresentPlus here moves fault h = λ e. absurd cc
-row-all m dir frozen node got cause.Read state.Modified here moves fault h = λ e. absurd cc
-row-all m dir frozen node got cause.Write state.Empty here moves fault h = absurd cc
-row-all m dir frozen node got cause.Write state.Present1 here moves fault h = λ e. absurd cc
-row-all m dir frozen node got cause.Write state.PresentPlus here moves fault h = λ e. absurd cc
-row-all m dir frozen node got cause.Write state.Modified here moves fault h = λ e. absurd cc
-row-all m dir frozen node got cause.Thaw st here moves fault h = absurd (fault refl)
+row-all m dir frozen node got c st here moves fault h = search arith
 
 module _ (m : Machine) (answer : Answer) (dir : Dir) (last : Option ℕ) (now node : ℕ) (got : Option Frame) where
   -- writes are removed on a modified page alone
@@ -87,24 +67,14 @@ module _ (m : Machine) (answer : Answer) (dir : Dir) (last : Option ℕ) (now no
 
 -- ---- frames
 
-pub same_frame-same : (f g : Frame) → same_frame f g ≡ true → f ≡ g
-same_frame-same f g same =
-    let parts = and_parts (f.module == g.module) (f.number == g.number) same in
-    let mo = eqb-true f.module g.module parts.0 in let number = eqb-true f.number g.number parts.1 in
-    λ i. record { «module» = mo i; number = number i }
-
 is_copy_of-from : (low : ℕ) (fs : List Frame) (f : Frame) → modules_rise low fs ≡ true → is_copy_of fs f ≡ true → low ≤ f.module
 is_copy_of-from low [] f rise copy = absurd cc
 is_copy_of-from low (g ∷ gs) f rise copy =
     let risen = and_parts (not (nat_lt g.module low)) (modules_rise (g.module + 1) gs) rise in
     let above : low ≤ g.module = let first = risen.0 in grind (arith, nat_tests) in
-    from_either (g.module) above (same_or (same_frame f g) (is_copy_of gs f) copy)
-    (λ same. ap (λ (x : Frame). x.module) (same_frame-same f g same)) (λ there. is_copy_of-from (g.module + 1) gs f risen.1 there)
+    from_either (g.module) above (or_cases (same_frame f g) (is_copy_of gs f) copy)
+    (λ same. ap (λ (x : Frame). x.module) (same_frame-true f g same)) (λ there. is_copy_of-from (g.module + 1) gs f risen.1 there)
   where
-    same_or : (b c : Bool) → (b || c) ≡ true → (b ≡ true) ⊎ (c ≡ true)
-    same_or true c h = inl refl
-    same_or false c h = inr h
-
     from_either :
         (k : ℕ) → low ≤ k → (same_frame f g ≡ true) ⊎ (is_copy_of gs f ≡ true) → (same_frame f g ≡ true → f.module ≡ k) →
         (is_copy_of gs f ≡ true → k + 1 ≤ f.module) → low ≤ f.module
@@ -116,27 +86,19 @@ pub is_copy_of-on : (low : ℕ) (fs : List Frame) (f : Frame) → modules_rise l
 is_copy_of-on low [] f rise copy = absurd cc
 is_copy_of-on low (g ∷ gs) f rise copy =
     let risen = and_parts (not (nat_lt g.module low)) (modules_rise (g.module + 1) gs) rise in
-    either (same_or (same_frame f g) (is_copy_of gs f) copy) (λ there. is_copy_of-on (g.module + 1) gs f risen.1 there)
+    either (or_cases (same_frame f g) (is_copy_of gs f) copy) (λ there. is_copy_of-on (g.module + 1) gs f risen.1 there)
     (λ there. is_copy_of-from (g.module + 1) gs f risen.1 there)
   where
-    same_or : (b c : Bool) → (b || c) ≡ true → (b ≡ true) ⊎ (c ≡ true)
-    same_or true c h = inl refl
-    same_or false c h = inr h
-
     either :
         (same_frame f g ≡ true) ⊎ (is_copy_of gs f ≡ true) → (is_copy_of gs f ≡ true → copy_on f.module gs ≡ Some f) →
         (is_copy_of gs f ≡ true → g.module + 1 ≤ f.module) → copy_on f.module (g ∷ gs) ≡ Some f
     either (inl same) more above =
-        let e : f ≡ g = same_frame-same f g same in
+        let e : f ≡ g = same_frame-true f g same in
         let here : (g.module == f.module) ≡ true = eq-eqb g.module f.module (ap (λ (x : Frame). x.module) (sym e)) in
         cond-true (g.module == f.module) (Some g) (copy_on f.module gs) here ∙ ap (λ (x : Frame). Some x) (sym e)
     either (inr there) more above =
         let apart : (g.module == f.module) ≡ false = ne_eqb g.module f.module (let k = above there in omega arith) in
         cond-false (g.module == f.module) (Some g) (copy_on f.module gs) apart ∙ more there
-
-or-true : (b : Bool) → (b || true) ≡ true
-or-true true = refl
-or-true false = refl
 
 pub copy_on-is : (mo : ℕ) (fs : List Frame) (f : Frame) → copy_on mo fs ≡ Some f → is_copy_of fs f ≡ true
 copy_on-is mo [] f on = absurd cc
@@ -163,7 +125,7 @@ going-any f test (g ∷ gs) h = by (test g) refl h (λ there. going-any f test g
     first : (b : Bool) → same_frame f g ≡ b → test g ≡ true → (b || list_any (same_frame f) (filter test gs)) ≡ true →
         (list_any (same_frame f) (filter test gs) ≡ true → (is_copy_of gs f ≡ true) × (test f ≡ true)) →
         ((b || is_copy_of gs f) ≡ true) × (test f ≡ true)
-    first true same is h more = (refl, subst (λ x. test x ≡ true) (sym (same_frame-same f g same)) is)
+    first true same is h more = (refl, subst (λ x. test x ≡ true) (sym (same_frame-true f g same)) is)
     first false same is h more = more h
 
     by : (b : Bool) → test g ≡ b → list_any (same_frame f) (cond b (g ∷ filter test gs) (filter test gs)) ≡ true →

@@ -1,12 +1,14 @@
 -- the facts of views hold in every state with the invariant, by what the actors alone say of their sessions
-use Rattle.std.specs.Prelude.{◌≡◌, ◌≢◌, ◌⊎◌, ℕ, zero, suc, ◌+◌, ◌<◌, ◌≤◌, ◌==◌, ◌&&◌, ◌||◌, not, if◌then◌else◌, Bool, true, false, List, [], ◌∷◌, map, length, take, drop, filter, cond, slice_index, Option, Some, None}
+use Rattle.std.specs.Prelude.{◌≡◌, ◌≢◌, ◌⊎◌, ℕ, zero, suc, ◌+◌, ◌<◌, ◌≤◌, ◌==◌, ◌&&◌, ◌||◌, not, if◌then◌else◌, Bool, true, false, List, []}
+use Rattle.std.specs.Prelude.{◌∷◌, map, length, take, drop, filter, cond, slice_index, Option, Some, None}
 use Rattle.std.proofs.Common.{refl, ap, sym, ◌∙◌, inl, inr, arith, subst}
 use Rattle.std.specs.Option.{option_map_or}
 use Rattle.std.specs.List.{list_any, range_with_len, zip, flat_map}
-use Rattle.std.proofs.lemmas.Bool.{and_parts, eqb-true, eq-eqb, ne_eqb, true≢false, not-true, cases_eq}
+use Rattle.std.proofs.lemmas.Bool.{and_parts, eqb-true, eq-eqb, ne_eqb, true≢false, not-true, cases_eq, or_cases, or_right, or_left}
 use Rattle.std.proofs.lemmas.Option.{same_Some}
 use Rattle.std.proofs.lemmas.List.{take_all, nil_from_length}
 use Rattle.std.proofs.lemmas.List.Folds.{list_any-append}
+use Rattle.std.proofs.lemmas.Bool.{and_from}
 use Rattle.plat_base.specs.Verdicts.{Answer}
 use Rattle.plat_base.specs.Machine.{Machine}
 use Rattle.plat_base.specs.Pages.{numbers, page_of, space_of, entries_of_page, entries_of_space}
@@ -30,22 +32,29 @@ use Rattle.plat_laws.proofs.Limits.{page_of-below}
 use Rattle.plat_events.specs.Words.{has_reference}
 use Rattle.plat_events.specs.Places.{entry_count}
 use Rattle.plat_events.specs.Shootdowns.{Target, targets_of, targets}
-use Rattle.plat_events.specs.Sessions.{Course, Phase, Stamping, Seeking, Taking, Returning, Shooting, Filling, Reading, Copying, Giving, Storing, Granting, Unlocking, Session, decision_of, going, translation_made}
-use Rattle.plat_events.specs.Privates.{Polling, Looking, Applying, Ticking, Switching, Loading, Expecting, Exchanging, Locking, InSession, Leaving, Lessening, Gone, LiveLooking, TimeLooking, Over, Private, Place, actor_count}
+use Rattle.plat_events.specs.Sessions.{Course, Phase, Stamping, Seeking, Taking, Returning, Shooting, Filling, Reading, Copying, Giving}
+use Rattle.plat_events.specs.Sessions.{Storing, Granting, Unlocking, Session, decision_of, going, translation_made}
+use Rattle.plat_events.specs.Privates.{Polling, Looking, Applying, Ticking, Switching, Loading, Expecting, Exchanging, Locking, InSession}
+use Rattle.plat_events.specs.Privates.{Leaving, Lessening, Gone, LiveLooking, TimeLooking, Over, Private, Place, actor_count}
 use Rattle.plat_events.specs.Events.{reach_now, entry_of}
-use Rattle.plat_events.specs.Standings.{course_of, is_quiet, unlocking_of, shot_passed, targets_left, frames_given, removes_by, posts_of, has_given, has_granted}
-use Rattle.plat_events.specs.Kept.{Running, session_on, session_of, has_left, activation_at, message_at, is_copy_of, is_active, is_unscanned, is_usable, word_at, private_of}
-use Rattle.plat_events.specs.Views.{Nobody, Another, Own, View, SessionView, no_session, session_viewed, session_view, place_view, page_view, names_copy, view_of, view, is_granted_by, is_marked, is_about_to, is_restrict, same_translation, translation_of}
+use Rattle.plat_events.specs.Standings.{course_of, is_quiet, unlocking_of, shot_passed, targets_left, frames_given, removes_by, posts_of}
+use Rattle.plat_events.specs.Standings.{has_given, has_granted}
+use Rattle.plat_events.specs.Kept.{Running, session_on, session_of, has_left, activation_at, message_at, is_copy_of, is_active}
+use Rattle.plat_events.specs.Kept.{is_unscanned, is_usable, word_at, private_of}
+use Rattle.plat_events.specs.Views.{Nobody, Another, Own, View, SessionView, no_session, session_viewed, session_view, place_view}
+use Rattle.plat_events.specs.Views.{page_view, names_copy, view_of, view, is_granted_by, is_marked, is_about_to, is_restrict}
+use Rattle.plat_events.specs.Views.{same_translation, translation_of}
 use Rattle.plat_events.specs.Runs.{Fine}
 use Rattle.plat_events.specs.Shown.{Shows}
 use Rattle.plat_views.specs.Facts.{ViewFacts}
-use Rattle.plat_local_laws.specs.Phases.{CourseOk, SessionOk, PhaseOk}
+use Rattle.plat_local_laws.specs.Phases.{SessionOk, PhaseOk}
 use Rattle.plat_local_laws.specs.Standing.{PlaceOk}
 use Rattle.plat_local_laws.specs.Alone.{PrivateOk}
 use Rattle.plat_fine_laws.proofs.TableFacts.{decided-writes, decided-all, decided-given}
 use Rattle.plat_fine_laws.proofs.SessionLaws.{runs_on-actor, session-ok, StandsIn, stands-in}
 use Rattle.plat_fine_laws.proofs.PlaceLaws.{unscanned-none}
 use Rattle.plat_fine_laws.proofs.ScanLaws.{entry_of_space}
+use Rattle.plat_local_laws.proofs.RunningLaws.{phase-course}
 
 -- ---- lists
 
@@ -150,36 +159,7 @@ unlocking-quiet (Storing d) c h = absurd cc
 unlocking-quiet (Granting d) c h = absurd cc
 unlocking-quiet (Unlocking d) c h = (refl, h)
 
--- the course of a session, with what the actor alone says of it
-course-ok :
-    (m : Machine) (answer : Answer) (a : ℕ) (p : Private) (x : Session) (ph : Phase) (c : Course) → PhaseOk m answer a p x ph →
-    course_of ph ≡ Some c → CourseOk m answer a p x c
-course-ok m answer a p x Stamping c ok h = absurd cc
-course-ok m answer a p x (Seeking st i) c ok h = absurd cc
-course-ok m answer a p x (Taking st i seen) c ok h = absurd cc
-course-ok m answer a p x Returning c ok h = absurd cc
-course-ok m answer a p x (Shooting d shot) c ok h = let same : d ≡ c = cc in subst (CourseOk m answer a p x) same ok.course
-course-ok m answer a p x (Filling d w) c ok h = let same : d ≡ c = cc in subst (CourseOk m answer a p x) same ok.quiet.course
-course-ok m answer a p x (Reading d w) c ok h = let same : d ≡ c = cc in subst (CourseOk m answer a p x) same ok.quiet.course
-course-ok m answer a p x (Copying d w seen) c ok h = let same : d ≡ c = cc in subst (CourseOk m answer a p x) same ok.fills.quiet.course
-course-ok m answer a p x (Giving d k) c ok h = let same : d ≡ c = cc in subst (CourseOk m answer a p x) same ok.quiet.course
-course-ok m answer a p x (Storing d) c ok h = let same : d ≡ c = cc in subst (CourseOk m answer a p x) same ok.quiet.course
-course-ok m answer a p x (Granting d) c ok h = let same : d ≡ c = cc in subst (CourseOk m answer a p x) same ok.stores.quiet.course
-course-ok m answer a p x (Unlocking d) c ok h = let same : d ≡ c = cc in subst (CourseOk m answer a p x) same ok.quiet.course
-
 -- ---- targets and entries
-
-not_or : (b c : Bool) → (b || c) ≡ true → (b ≡ true) ⊎ (c ≡ true)
-not_or true c h = inl refl
-not_or false c h = inr h
-
-or_right : (b c : Bool) → c ≡ true → (b || c) ≡ true
-or_right true c h = refl
-or_right false c h = h
-
-or_left : (b c : Bool) → b ≡ true → (b || c) ≡ true
-or_left true c h = refl
-or_left false c h = absurd cc
 
 abbrev is_target : (e q : ℕ) → Target → Bool
 is_target e q t = t.entry == e && t.processor == q
@@ -212,7 +192,7 @@ any-targets_of a entry mask e q (n ∷ ns) h =
         list_any (is_target e q) (map (λ k. record { entry = entry; processor = k }) (cond b (n ∷ filter (λ k. has_reference mask k && not
         (k == a)) ns) (filter (λ k. has_reference mask k && not (k == a)) ns))) ≡ true →
         (list_any (is_target e q) rest ≡ true → ((entry == e) ≡ true) × (q ≢ a)) → ((entry == e) ≡ true) × (q ≢ a)
-    by true passes h more = either passes (not_or (entry == e && n == q) (list_any (is_target e q) rest) h) more
+    by true passes h more = either passes (or_cases (entry == e && n == q) (list_any (is_target e q) rest) h) more
     by false passes h more = more h
 
 any-targets :
@@ -223,7 +203,7 @@ any-targets m a e q [] posts h = absurd cc
 any-targets m a e q (x ∷ es) [] h = absurd cc
 any-targets m a e q (x ∷ es) (n ∷ posts) h =
     by
-    (not_or (list_any (is_target e q) (targets_of m a x n)) (list_any (is_target e q) (flat_map (λ (y : ℕ × ℕ). targets_of m a y.0 y.1)
+    (or_cases (list_any (is_target e q) (targets_of m a x n)) (list_any (is_target e q) (flat_map (λ (y : ℕ × ℕ). targets_of m a y.0 y.1)
     (zip es posts)))
     (sym (list_any-append (is_target e q) (targets_of m a x n) (flat_map (λ (y : ℕ × ℕ). targets_of m a y.0 y.1) (zip es posts))) ∙ h))
     (λ there. any-targets m a e q es posts there)
@@ -310,10 +290,6 @@ about_to-active m answer q p e test ok h = by (message_at m p p.place) refl h
 
 -- ---- small tests
 
-both_true : (b c : Bool) → b ≡ true → c ≡ true → (b && c) ≡ true
-both_true true c h k = k
-both_true false c h k = absurd cc
-
 third_true : (a b c : Bool) → (a && b && c) ≡ true → c ≡ true
 third_true true true true h = refl
 third_true true true false h = absurd cc
@@ -397,7 +373,7 @@ module _ (m : Machine) (answer : Answer) (s : Fine) (q e a : ℕ) (x : Session) 
       any-targets m a e q (entries_of_page m x.fault.page) (posts_of x) (left-among (is_target e q) ts x.phase h) in
       let some : removes_some sv.removes ≡ true = ap removes_some (removes-course shoots.0 shoots.1) ∙ shoots.2 in
       let apart : (a == q) ≡ false = ne_eqb a q (λ same. there.1 (sym same)) in (
-        both_true (removes_some sv.removes) (list_any (λ k. k == e) (take (length (posts_of x))
+        and_from (removes_some sv.removes) (list_any (λ k. k == e) (take (length (posts_of x))
             (entries_of_page m x.fault.page))) some there.0,
         ap (λ b. if b then Own else Another) apart,
       )
@@ -419,7 +395,7 @@ module _ (m : Machine) (answer : Answer) (s : Fine) (q e a : ℕ) (x : Session) 
       let whole : take (length (posts_of x)) es ≡ es = take_all (length (posts_of x)) es (omega (arith, count)) in
       let among : list_any (λ k. k == e) es ≡ true =
       ap (λ pg. list_any (λ k. k == e) (entries_of_page m pg)) on ∙ entry_of_page m e below in
-      both_true (removes_some sv.removes) (list_any (λ k. k == e) (take (length (posts_of x)) es)) removes
+      and_from (removes_some sv.removes) (list_any (λ k. k == e) (take (length (posts_of x)) es)) removes
       (ap (list_any (λ k. k == e)) whole ∙ among)
 
   granted-facts : sv.granted ≡ true → (sv.whose ≡ Own) × (sv.quiet ≡ true) × (is_active m (private_of m s q) e ≡ true)
@@ -436,7 +412,7 @@ module _ (m : Machine) (answer : Answer) (s : Fine) (q e a : ℕ) (x : Session) 
       let space : space_of m e ≡ (private_of m s a).guest.space = ap (space_of m) entry ∙ (reach.in_space ∙ reach.space) in
       let here : (space_of m e == (private_of m s a).guest.space) ≡ true = eq-eqb (space_of m e) (private_of m s a).guest.space space in
       let active : is_active m (private_of m s a) e ≡ true =
-      both_true (space_of m e == (private_of m s a).guest.space) (not (has_left (private_of m s a).place)) here (ap not stands.left) in (
+      and_from (space_of m e == (private_of m s a).guest.space) (not (has_left (private_of m s a).place)) here (ap not stands.left) in (
         ap (λ b. if b then Own else Another) parts.0,
         (unlocking-quiet x.phase grant.0 grant.1).0,
         subst (λ b. is_active m (private_of m s b) e ≡ true) same active,
@@ -462,13 +438,13 @@ module _ (m : Machine) (answer : Answer) (s : Fine) (q e a : ℕ) (x : Session) 
       by None is h = absurd cc
       by (Some c) is h = λ empty.
           decided-all m answer x.dir c.stamp.last (private_of m s a).now a c.got x.fault.cause
-          (course-ok m answer a (private_of m s a) x x.phase c ok.phase is).may h (ap (λ (d : Dir). d.state) dir ∙ empty)
+          (phase-course m answer a (private_of m s a) x x.phase c ok.phase is).may h (ap (λ (d : Dir). d.state) dir ∙ empty)
 
   own-usable : sv.whose ≡ Own → is_active m (private_of m s q) e ≡ true → is_usable m (private_of m s q) e ≡ true
   own-usable own active =
       let scan : activation_at (private_of m s q).place ≡ None =
       subst (λ b. activation_at (private_of m s b).place ≡ None) (own-actor own) stands.scan in
-      both_true (is_active m (private_of m s q) e) (not (is_unscanned m (private_of m s q) e)) active
+      and_from (is_active m (private_of m s q) e) (not (is_unscanned m (private_of m s q) e)) active
       (ap not (unscanned-none m (private_of m s q) e scan))
 
   own-quiet : sv.whose ≡ Own → sv.quiet ≡ true → is_about_to m (private_of m s q) e is_restrict ≡ false
@@ -491,7 +467,7 @@ module _ (m : Machine) (answer : Answer) (s : Fine) (q e a : ℕ) (x : Session) 
             given.0,
             removes-course c is
                 ∙ decided-given m answer x.dir c.stamp.last (private_of m s a).now a x.fault.cause c.got f
-                (course-ok m answer a (private_of m s a) x x.phase c ok.phase is).may ok.dir given.1,
+                (phase-course m answer a (private_of m s a) x x.phase c ok.phase is).may ok.dir given.1,
           )
 
       translated :

@@ -11,7 +11,8 @@ use Rattle.plat_base.specs.declared.items.Translation.{Translation}
 use Rattle.plat_base.specs.declared.words.WordName.TheVariants.{Cmap}
 use Rattle.plat_events.specs.Words.{has_reference}
 use Rattle.plat_events.specs.Kept.{word_at}
-use Rattle.plat_events.specs.Views.{EntryOk, HeldOk, InvalidateStays, view, view_of, session_view, page_view, held_view, agrees, translation_of}
+use Rattle.plat_events.specs.Views.{EntryOk, HeldOk, InvalidateStays, view, view_of, session_view, page_view, held_view, agrees}
+use Rattle.plat_events.specs.Views.{translation_of}
 use Rattle.plat_events.specs.Runs.{Fine}
 use Rattle.plat_fine_laws.specs.Changes.{KeepsPage, KeepsEntry}
 

@@ -1,6 +1,7 @@
 -- the places whose operation writes no word of a page, an entry, a pool or a frame, and leaves translations and sessions alone
 use Rattle.std.specs.Prelude.{Bool, true, false}
-use Rattle.plat_events.specs.Privates.{Place, Polling, Looking, Applying, Ticking, Switching, Loading, Expecting, Exchanging, Locking, InSession, Leaving, Lessening, Gone, LiveLooking, TimeLooking, Over}
+use Rattle.plat_events.specs.Privates.{Place, Polling, Looking, Applying, Ticking, Switching, Loading, Expecting, Exchanging, Locking}
+use Rattle.plat_events.specs.Privates.{InSession, Leaving, Lessening, Gone, LiveLooking, TimeLooking, Over}
 
 abbrev pub is_outside : Place → Bool
 is_outside (Polling onward) = true

@@ -22,7 +22,8 @@ pub fn any_policy_shows<P: Policy>(cfg: &Config, policy: &P)
     ensures facts { (s : Fine) (q e : ℕ) → Shows (machine cfg.now) (P.answer policy.now) s
         → q < (machine cfg.now).nodes → e < entry_count (machine cfg.now)
         → ViewFacts (view (machine cfg.now) (P.answer policy.now) s q e) }
-    ensures kept { (s : Fine) (a : ℕ) → Shows (machine cfg.now) (P.answer policy.now) s → a < actor_count (machine cfg.now)
+    ensures kept { (s : Fine) (a : ℕ) → Shows (machine cfg.now) (P.answer policy.now) s →
+        a < actor_count (machine cfg.now)
         → IsTrue (is_outside (private_of (machine cfg.now) s a).place)
         → Shows (machine cfg.now) (P.answer policy.now) (event (machine cfg.now) (P.answer policy.now) s a) }
 {}

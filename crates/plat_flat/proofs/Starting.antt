@@ -1,5 +1,6 @@
 -- the starting values, written from the last to the first, and what the limits of a machine say of them
-use Rattle.std.proofs.Common.{◌≡◌, ℕ, zero, suc, ◌*◌, ◌<◌, ◌≤◌, true, Bool, List, [], ◌∷◌, ◌++◌, length, get_or, set, replicate, refl, ap, sym, ⊎_elim, ◌∙◌, arith}
+use Rattle.std.proofs.Common.{◌≡◌, ℕ, zero, suc, ◌*◌, ◌<◌, ◌≤◌, true, Bool, List, [], ◌∷◌, ◌++◌, length, get_or, set, replicate, refl, ap}
+use Rattle.std.proofs.Common.{sym, ⊎_elim, ◌∙◌, arith}
 use Rattle.std.specs.Prelude.{◌==◌, ◌&&◌, if◌then◌else◌, IsTrue, find, unwrap_or}
 use Rattle.std.specs.List.{list_all}
 use Rattle.std.specs.Option.{option_map}
@@ -12,19 +13,12 @@ use Rattle.plat_base.specs.Machine.{Machine, limits, is_machine, is_within, is_p
 use Rattle.plat_base.specs.declared.configs.Init.{Init}
 use Rattle.plat_flat.specs.FlatSeen.{IsFlatOf, place}
 use Rattle.plat_flat.proofs.Accesses.{place-within, written_word}
+use Rattle.plat_base.proofs.LimitLemmas.{holds_at, page_size-most}
 
 -- ---- limits
 
-list_all-get_or : {A : Type 0} (p : A → Bool) (xs : List A) (i : ℕ) (d : A) → list_all p xs ≡ true → i < length xs → p (get_or xs i d) ≡ true
-list_all-get_or p [] i d h l = absurd (omega arith)
-list_all-get_or p (x ∷ xs) zero d h l = (and_parts (p x) (list_all p xs) h).0
-list_all-get_or p (x ∷ xs) (suc i) d h l = list_all-get_or p xs i d (and_parts (p x) (list_all p xs) h).1 (omega arith)
-
 limit_at : (m : Machine) (i : ℕ) → IsTrue (is_machine m) → i < 15 → get_or (limits m) i true ≡ true
-limit_at m i h l = list_all-get_or (λ b. b) (limits m) i true h l
-
-is_page_size-most : (n : ℕ) → is_page_size n ≡ true → n ≤ 64
-is_page_size-most n h = grind (arith, nat_tests)
+limit_at m i h l = holds_at (λ b. b) (limits m) i true h l
 
 is_within-high : (low high n : ℕ) → is_within low high n ≡ true → n ≤ high
 is_within-high low high n h = grind (arith, nat_tests)
@@ -33,7 +27,7 @@ is_init-within : (pages words : ℕ) (i : Init) → is_init pages words i ≡ tr
 is_init-within pages words i h = grind (arith, nat_tests)
 
 pub few_words : (m : Machine) → IsTrue (is_machine m) → m.words ≤ 64
-few_words m h = is_page_size-most m.words (limit_at m 2 h (omega arith))
+few_words m h = page_size-most m.words (limit_at m 2 h (omega arith))
 
 pub few_pages : (m : Machine) → IsTrue (is_machine m) → m.pages ≤ 64
 few_pages m h = is_within-high 1 64 m.pages (limit_at m 3 h (omega arith))
@@ -108,7 +102,8 @@ past-none m to_come vs e zeros = record {
   started = rw zeros (started-none m.pages m.words (m.pages * m.words) refl);
 }
 
-split-more : (m : Machine) (to_come before written : List Init) (i : Init) → m.inits ≡ to_come ++ written → to_come ≡ before ++ i ∷ [] → m.inits ≡ before ++ i ∷ written
+split-more : (m : Machine) (to_come before written : List Init) (i : Init) → m.inits ≡ to_come ++ written → to_come ≡ before ++ i ∷ [] →
+    m.inits ≡ before ++ i ∷ written
 split-more m to_come before written i split last = split ∙ ap (λ inits. inits ++ written) last ∙ append_assoc before (i ∷ []) written
 
 -- the last one to come is of a word of a page
@@ -144,7 +139,8 @@ past-all m to_come vs ws h none n zeros e = record {
   pages = refl;
   words = refl;
   value = λ page word p w.
-      h.started.value page word p w ∙ ap (λ inits. starting inits page word) (sym (h.split ∙ ap (λ inits. inits ++ h.written) (length-zero to_come none)));
+      h.started.value page word p w ∙ ap (λ inits. starting inits page word)
+      (sym (h.split ∙ ap (λ inits. inits ++ h.written) (length-zero to_come none)));
   version = λ page word p w.
       let within : place m.words page word < n = place-within m.pages m.words page word n e p w
       in rw zeros (get_or-replicate n (place m.words page word) 0 0 within);

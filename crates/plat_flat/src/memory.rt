@@ -29,7 +29,12 @@ impl Model for Flat {
 
     ghost Value = { FlatSeen };
 
-    ghost view = { λ it. record { pages = it.pages; words = it.words; values = it.values.items; versions = it.versions.items } };
+    ghost view = { λ it. record {
+      pages = it.pages;
+      words = it.words;
+      values = it.values.items;
+      versions = it.versions.items;
+    } };
 
     ghost invariant = { λ it. FitsPages it.pages it.words it.values.items it.versions.items };
 }
@@ -87,8 +92,10 @@ impl Flat {
     /// Takes an item in. It answers false exactly where the item is an access that is not the next one of flat memory,
     /// and then changes nothing.
     pub fn apply(&mut self, item: &Item) -> bool
-        ensures answer { (m : Machine) (items : Many AnyItem) → IsFlatOf m items self.old → result ≡ is_legal_item m items item.now }
-        ensures applied { (m : Machine) (items : Many AnyItem) → IsFlatOf m items self.old → result ≡ true → IsFlatOf m (items ++ item.now ∷ []) self.new }
+        ensures answer { (m : Machine) (items : Many AnyItem) → IsFlatOf m items self.old →
+            result ≡ is_legal_item m items item.now }
+        ensures applied { (m : Machine) (items : Many AnyItem) → IsFlatOf m items self.old → result ≡ true →
+            IsFlatOf m (items ++ item.now ∷ []) self.new }
         ensures refused { result ≡ false → self.new ≡ self.old }
         ensures pages { self.new.pages ≡ self.old.pages }
         ensures words { self.new.words ≡ self.old.words }
@@ -101,8 +108,10 @@ impl Flat {
 
     /// Takes an access in, if it is the next one of flat memory.
     fn apply_access(&mut self, access: &Access) -> bool
-        ensures answer { (m : Machine) (items : Many AnyItem) → IsFlatOf m items self.old → result ≡ is_legal m items access.now }
-        ensures applied { (m : Machine) (items : Many AnyItem) → IsFlatOf m items self.old → result ≡ true → IsFlatOf m (items ++ item.Access access.now ∷ []) self.new }
+        ensures answer { (m : Machine) (items : Many AnyItem) → IsFlatOf m items self.old →
+            result ≡ is_legal m items access.now }
+        ensures applied { (m : Machine) (items : Many AnyItem) → IsFlatOf m items self.old → result ≡ true →
+            IsFlatOf m (items ++ item.Access access.now ∷ []) self.new }
         ensures refused { result ≡ false → self.new ≡ self.old }
         ensures pages { self.new.pages ≡ self.old.pages }
         ensures words { self.new.words ≡ self.old.words }

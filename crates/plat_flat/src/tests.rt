@@ -4,51 +4,34 @@ ghost use Rattle.plat_base.specs.Seen.{machine};
 ghost use Rattle.plat_flat.specs.Tried.{tried};
 
 use crate::Flat;
-use plat_base::{
-    Access, Config, Frame, GuestText, Init, Item, Kind, List, OutOfMemory, Plan, PolicyKind, Switch,
-};
+use plat_base::{Access, Config, Frame, Init, Item, Kind, OutOfMemory, PolicyKind, Switch};
+use plat_samples::{Sizes, idle_nodes};
 use std::alloc::Global;
 use std::test::Fail;
 
-fn starting_values(alloc: Global) -> Result<List<Init>, OutOfMemory>
-    ensures { IfOk result (λ list. list.items ≡ tried.inits) }
-{
-    let mut inits = List::with_room(alloc, 2)?;
-    inits.push(Init {
+const STARTING_VALUES: [Init; 2] = [
+    Init {
         page: 0,
         word: 3,
         value: 9,
-    });
-    inits.push(Init {
+    },
+    Init {
         page: 1,
         word: 2,
         value: 7,
-    });
-    Ok(inits)
-}
+    },
+];
 
 fn two_pages(alloc: Global) -> Result<Config, OutOfMemory>
     ensures { IfOk result (λ cfg. machine cfg ≡ tried) }
 {
-    let mut guests = List::with_room(alloc, 1)?;
-    guests.push(GuestText {
-        space: 0,
-        code: List::new(alloc),
-        labels: List::new(alloc),
-    });
-    Ok(Config {
+    let sizes = Sizes {
         nodes: 1,
         frames: 2,
-        words: 4,
         pages: 2,
-        policy: PolicyKind::Place,
         budget: 1,
-        schedule: Plan::Robin,
-        distances: List::new(alloc),
-        entries: List::new(alloc),
-        inits: starting_values(alloc)?,
-        guests,
-    })
+    };
+    idle_nodes(alloc, sizes, PolicyKind::Place, &[], &STARTING_VALUES)
 }
 
 // An access of word 2 of page 1.

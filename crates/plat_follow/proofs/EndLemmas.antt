@@ -1,8 +1,9 @@
 -- how a guest that is followed can have ended: the run before it stops, and the run after that
-use Rattle.std.proofs.Common.{◌≡◌, ◌⊎◌, inl, inr, ℕ, zero, suc, ◌+◌, ◌-◌, ◌<◌, ◌≤◌, Bool, true, false, List, length, refl, arith, ap, ◌∙◌, sym, subst}
+use Rattle.std.proofs.Common.{◌≡◌, ◌⊎◌, inl, inr, ℕ, zero, suc, ◌+◌, ◌-◌, ◌<◌, ◌≤◌, Bool, true, false, List, length, refl, arith, ap, ◌∙◌}
+use Rattle.std.proofs.Common.{sym, subst}
 use Rattle.std.specs.Prelude.{◌==◌, nat_lt, nat_le, ◌&&◌, ◌||◌}
 use Rattle.std.proofs.Math.Bool.{and-false, and-true, or-true}
-use Rattle.std.proofs.lemmas.Bool.{cases_lt, cases_order, false_from_ne_true}
+use Rattle.std.proofs.lemmas.Bool.{cases_lt, cases_order, false_from_ne_true, ne_eqb}
 use Rattle.std.proofs.lemmas.Bool.Decides.{nat_tests}
 use Rattle.plat_base.specs.Machine.{Machine}
 use Rattle.plat_base.specs.GuestRun.{GuestRun, Outcome, GoesOn, HasHalted, HasTrapped, want_of, with_end, guest_does, guest_run}
@@ -17,20 +18,19 @@ use Rattle.plat_base.specs.declared.endings.End.{End}
 use Rattle.plat_base.specs.declared.endings.End.TheVariants as end
 use Rattle.plat_base.specs.declared.endings.Ended.{Ended}
 use Rattle.plat_laws.proofs.GuestLaws.{guest_run-next_same, are_done-length}
-use Rattle.plat_follow.specs.Followed.{FollowerSeen, IsStop, Follows, lacks_right, lacks_right_for, is_halting, is_trapping, is_spending, can_end, is_ended}
+use Rattle.plat_follow.specs.Followed.{FollowerSeen, IsStop, Follows, lacks_right, lacks_right_for, is_halting, is_trapping, is_spending}
+use Rattle.plat_follow.specs.Followed.{can_end, is_ended}
 use Rattle.plat_follow.specs.declared.stops.Stop.{Stop}
 use Rattle.plat_follow.specs.declared.stops.Stop.TheVariants as stop
 use Rattle.plat_follow.specs.declared.wanted.Wanted.TheVariants as wanted
-use Rattle.plat_follow.proofs.RunLemmas.{IsMaking, IsMaking-earlier, guest_run-ended, guest_run-waiting, operations-quiet, operations-one, operations-more}
+use Rattle.plat_follow.proofs.RunLemmas.{IsMaking, IsMaking-earlier, guest_run-ended, guest_run-waiting, operations-quiet, operations-one}
+use Rattle.plat_follow.proofs.RunLemmas.{operations-more}
 use Rattle.plat_follow.proofs.NextLemmas.{awaited, awaited-next, stop-at}
 
 -- ---- tests
 
 flip : (a b : ℕ) → (a == b) ≡ (b == a)
 flip a b = grind (arith, nat_tests)
-
-other_number : (a b : ℕ) → (a ≡ b → ⊥) → (a == b) ≡ false
-other_number a b n = grind (arith, nat_tests)
 
 same_number : (a : ℕ) → (a == a) ≡ true
 same_number a = grind (arith, nat_tests)
@@ -56,7 +56,7 @@ ends_as stop.Traps HasTrapped = true
 ends_as stop.Spent o = false
 
 stands_other : (r : GuestRun) (t : ℕ) (o : Outcome) → (r.turns ≡ t → ⊥) → stands r t o ≡ false
-stands_other r t o n = rw (other_number r.turns t n)
+stands_other r t o n = rw (ne_eqb r.turns t n)
 
 outcome_other : (r : GuestRun) (t : ℕ) (o : Outcome) → r.outcome ≡ GoesOn → (o ≡ GoesOn → ⊥) → stands r t o ≡ false
 outcome_other r t GoesOn e n = absurd (n refl)
@@ -226,7 +226,7 @@ module _ (m : Machine) (items : List Item) (q : ℕ) (f : FollowerSeen) (h : Fol
     | inl l ↦ late t o (ends_as f.stop o) refl l u
     | inr low ↦
         let goes = outcome_other (guest_run m q (values_of q items) t) t o (making t low).goes n
-        in rw (goes, other_number t (f.turns + 1) (λ e. omega arith), and-false)
+        in rw (goes, ne_eqb t (f.turns + 1) (λ e. omega arith), and-false)
   ]
 
   halting : (s : Stop) → ends_as s HasHalted ≡ is_halting s
@@ -260,10 +260,10 @@ module _ (m : Machine) (items : List Item) (q : ℕ) (f : FollowerSeen) (h : Fol
   spending :
       (s : Stop) → IsStop m f.turns (want_of m q (guest_run m q (values_of q items) f.turns).state) s
       → (f.turns == m.budget) ≡ is_spending s
-  spending (stop.Wants (wanted.Access a)) is = let l = is.0 in other_number f.turns m.budget (λ e. omega arith)
-  spending (stop.Wants (wanted.Switch space)) is = let l = is.0 in other_number f.turns m.budget (λ e. omega arith)
-  spending stop.Halts is = let l = is.0 in other_number f.turns m.budget (λ e. omega arith)
-  spending stop.Traps is = let l = is.0 in other_number f.turns m.budget (λ e. omega arith)
+  spending (stop.Wants (wanted.Access a)) is = let l = is.0 in ne_eqb f.turns m.budget (λ e. omega arith)
+  spending (stop.Wants (wanted.Switch space)) is = let l = is.0 in ne_eqb f.turns m.budget (λ e. omega arith)
+  spending stop.Halts is = let l = is.0 in ne_eqb f.turns m.budget (λ e. omega arith)
+  spending stop.Traps is = let l = is.0 in ne_eqb f.turns m.budget (λ e. omega arith)
   spending stop.Spent is = grind (arith, nat_tests)
 
   goes_on : (t : ℕ) → t ≤ f.turns → stands (guest_run m q (values_of q items) t) t GoesOn ≡ true
@@ -284,10 +284,10 @@ module _ (m : Machine) (items : List Item) (q : ℕ) (f : FollowerSeen) (h : Fol
   is_end-spent lacks t u = elim (cases_order f.turns t) [
     | inl e ↦ let ends : ℕ → Type 0 = λ n. is_end m items q end.Spent n ≡ can_end m f lacks end.Spent n in subst ends e (spent_here lacks)
     | inr other ↦ elim other [
-      | inl l ↦ rw (tail_false (t == m.budget) _ _ (goes_no_further t l u), other_number t f.turns (λ e. omega arith), and-false)
+      | inl l ↦ rw (tail_false (t == m.budget) _ _ (goes_no_further t l u), ne_eqb t f.turns (λ e. omega arith), and-false)
       | inr l ↦
           let below = h.stands.within in
-          rw (other_number t m.budget (λ e. omega arith), other_number t f.turns (λ e. omega arith), and-false)
+          rw (ne_eqb t m.budget (λ e. omega arith), ne_eqb t f.turns (λ e. omega arith), and-false)
     ]
   ]
 
@@ -331,14 +331,14 @@ module _ (m : Machine) (items : List Item) (q : ℕ) (f : FollowerSeen) (h : Fol
   is_end-no_frames :
       (lacks : Bool) (t : ℕ) → lacks ≡ lacks_right m items q → t ≤ m.budget
       → is_end m items q end.NoFrames t ≡ can_end m f lacks end.NoFrames t
-  is_end-no_frames lacks zero e u = rw (other_number 0 (f.turns + 1) (λ z. omega arith), and-false)
+  is_end-no_frames lacks zero e u = rw (ne_eqb 0 (f.turns + 1) (λ z. omega arith), and-false)
   is_end-no_frames lacks (suc t) e u = elim (cases_order f.turns t) [
     | inl here ↦
         let ends : ℕ → Type 0 = λ n. is_end m items q end.NoFrames (suc n) ≡ can_end m f lacks end.NoFrames (suc n)
         in subst ends here (starved_here lacks e (omega arith))
     | inr other ↦ elim other [
-      | inl l ↦ rw (starved_after t l (omega arith), other_number (suc t) (f.turns + 1) (λ z. omega arith), and-false)
-      | inr l ↦ rw (starved_before t l, other_number (suc t) (f.turns + 1) (λ z. omega arith), and-false)
+      | inl l ↦ rw (starved_after t l (omega arith), ne_eqb (suc t) (f.turns + 1) (λ z. omega arith), and-false)
+      | inr l ↦ rw (starved_before t l, ne_eqb (suc t) (f.turns + 1) (λ z. omega arith), and-false)
     ]
   ]
 
@@ -395,7 +395,7 @@ module _ (m : Machine) (items : List Item) (q : ℕ) (f : FollowerSeen) (h : Fol
       (s : Stop) (t : ℕ) → IsStop m f.turns (want_of m q (guest_run m q (values_of q items) f.turns).state) s
       → m.budget < t → (is_halting s && t == f.turns + 1) ≡ false
   over_halting (stop.Wants w) t is l = refl
-  over_halting stop.Halts t is l = let u = is.0 in other_number t (f.turns + 1) (λ e. omega arith)
+  over_halting stop.Halts t is l = let u = is.0 in ne_eqb t (f.turns + 1) (λ e. omega arith)
   over_halting stop.Traps t is l = refl
   over_halting stop.Spent t is l = refl
 
@@ -404,13 +404,13 @@ module _ (m : Machine) (items : List Item) (q : ℕ) (f : FollowerSeen) (h : Fol
       → m.budget < t → (is_trapping s && t == f.turns + 1) ≡ false
   over_trapping (stop.Wants w) t is l = refl
   over_trapping stop.Halts t is l = refl
-  over_trapping stop.Traps t is l = let u = is.0 in other_number t (f.turns + 1) (λ e. omega arith)
+  over_trapping stop.Traps t is l = let u = is.0 in ne_eqb t (f.turns + 1) (λ e. omega arith)
   over_trapping stop.Spent t is l = refl
 
   over_lacking :
       (s : Stop) (t : ℕ) → IsStop m f.turns (want_of m q (guest_run m q (values_of q items) f.turns).state) s
       → m.budget < t → (lacks_right_for m items q (awaited s) && t == f.turns + 1) ≡ false
-  over_lacking (stop.Wants (wanted.Access a)) t is l = let u = is.0 in rw (other_number t (f.turns + 1) (λ e. omega arith), and-false)
+  over_lacking (stop.Wants (wanted.Access a)) t is l = let u = is.0 in rw (ne_eqb t (f.turns + 1) (λ e. omega arith), and-false)
   over_lacking (stop.Wants (wanted.Switch space)) t is l = refl
   over_lacking stop.Halts t is l = refl
   over_lacking stop.Traps t is l = refl
@@ -420,7 +420,7 @@ module _ (m : Machine) (items : List Item) (q : ℕ) (f : FollowerSeen) (h : Fol
   over : (lacks : Bool) (e : End) (t : ℕ) → lacks ≡ lacks_right m items q → m.budget < t → can_end m f lacks e t ≡ false
   over lacks end.Halted t same l = over_halting f.stop t (stop-at m items q f h) l
   over lacks end.Trapped t same l = over_trapping f.stop t (stop-at m items q f h) l
-  over lacks end.Spent t same l = let below = h.stands.within in rw (other_number t f.turns (λ e. omega arith), and-false)
+  over lacks end.Spent t same l = let below = h.stands.within in rw (ne_eqb t f.turns (λ e. omega arith), and-false)
   over lacks end.NoFrames t same l =
       let lacking : lacks ≡ lacks_right_for m items q (awaited f.stop) =
       same ∙ ap (lacks_right_for m items q) (sym (awaited-next m items q f h))

@@ -1,8 +1,10 @@
 -- a guest that is followed: its start, turns without an operation, one more operation, and items of others
-use Rattle.std.proofs.Common.{◌≡◌, ◌∙◌, ℕ, suc, ◌+◌, ◌≤◌, Bool, true, false, List, [], ◌∷◌, ◌++◌, refl, arith, ap, sym, add-one, subst, if◌then◌else◌, below_more}
+use Rattle.std.proofs.Common.{◌≡◌, ◌∙◌, ℕ, suc, ◌+◌, ◌≤◌, Bool, true, false, List, [], ◌∷◌, ◌++◌, refl, arith, ap, sym, add-one, subst}
+use Rattle.std.proofs.Common.{if◌then◌else◌, below_more}
 use Rattle.std.specs.Prelude.{◌==◌}
 use Rattle.std.proofs.lemmas.List.Sums.{fold-append}
 use Rattle.std.proofs.lemmas.Bool.Decides.{nat_tests}
+use Rattle.std.proofs.lemmas.Bool.{eq-eqb}
 use Rattle.plat_base.specs.Machine.{Machine}
 use Rattle.plat_base.specs.Alike.{same_kind}
 use Rattle.plat_base.specs.GuestRun.{GuestRun, want_of, guest_after, guest_does, guest_run, Reach, reach_of}
@@ -18,7 +20,8 @@ use Rattle.plat_base.specs.declared.items.Switch.{Switch}
 use Rattle.plat_base.specs.declared.items.Item.{Item}
 use Rattle.plat_base.specs.declared.items.Item.TheVariants as item
 use Rattle.plat_laws.specs.Guests.{IsGuest}
-use Rattle.plat_laws.proofs.GuestLaws.{more_values, guest_run-next, guest_run-next_same, values_found, values_of-append, values_of-none, IsGuest-start, IsGuest-local, IsGuest-print, IsGuest-access, IsGuest-switch}
+use Rattle.plat_laws.proofs.GuestLaws.{more_values, guest_run-next, guest_run-next_same, values_found, values_of-append, values_of-none}
+use Rattle.plat_laws.proofs.GuestLaws.{IsGuest-start, IsGuest-local, IsGuest-print, IsGuest-access, IsGuest-switch}
 use Rattle.plat_laws.proofs.EndLaws.{values_of-no_operations, IsGuest-no_operations}
 use Rattle.plat_guest.specs.GuestSeen.{GuestSeen, new_guest, stepped, wanted_by}
 use Rattle.plat_follow.specs.Wanted.{is_quiet}
@@ -158,9 +161,6 @@ active-switch :
     → active m (items ++ item.Switch s ∷ []) q ≡ s.space
 active-switch m items q s e = rw (fold-append, e)
 
-same-number : (a b : ℕ) → a ≡ b → (a == b) ≡ true
-same-number a b e = grind (arith, nat_tests)
-
 equal-number : (a b : ℕ) → (a == b) ≡ true → a ≡ b
 equal-number a b e = grind (arith, nat_tests)
 
@@ -173,7 +173,7 @@ made-access m items q guest last turns old acc (stop.Wants (wanted.Access a)) at
     let more = item.Access acc ∷ [] in
     let vs = values_of q items in
     let r = guest_run m q vs turns in
-    let e = same-number acc.actor q mine in
+    let e = eq-eqb acc.actor q mine in
     let w = h.1.0 in
     let this : Reach → Type 0 = λ reach. is_done_access reach acc ≡ true in
     let done = subst this h.1.1 next in
@@ -199,7 +199,7 @@ made-switch :
 made-switch m items q guest last turns old sw (stop.Wants (wanted.Access a)) at h mine next = absurd cc
 made-switch m items q guest last turns old sw (stop.Wants (wanted.Switch space)) at h mine next =
     let more = item.Switch sw ∷ [] in
-    let e = same-number sw.actor q mine in
+    let e = eq-eqb sw.actor q mine in
     let w = h.1 in
     let to = equal-number space sw.space next in
     let ops : operations_of q more ≡ Switched space ∷ [] = rw (e, to) in

@@ -1,10 +1,11 @@
 -- the followers of all processors: one of them goes on, or none
-use Rattle.std.proofs.Common.{◌≡◌, ◌≢◌, inl, inr, ℕ, ◌<◌, true, false, List, [], ◌∷◌, ◌++◌, length, get_or, set, None, refl, arith, sym, ◌∙◌, subst, get_or-set_other, get_or-set_same, below_more, ◌+◌}
+use Rattle.std.proofs.Common.{◌≡◌, ◌≢◌, inl, inr, ℕ, ◌<◌, true, false, List, [], ◌∷◌, ◌++◌, length, get_or, set, None, refl, arith, sym}
+use Rattle.std.proofs.Common.{◌∙◌, subst, get_or-set_other, get_or-set_same, below_more, ◌+◌}
 use Rattle.std.specs.Prelude.{◌==◌, ◌&&◌, nat_lt}
 use Rattle.std.proofs.Math.ListN.{length-set, get_or-append}
 use Rattle.std.proofs.Math.Seq.{get_or-append_seam}
 use Rattle.std.proofs.lemmas.List.{get_or_default}
-use Rattle.std.proofs.lemmas.Bool.{cases_eq}
+use Rattle.std.proofs.lemmas.Bool.{cases_eq, ne_eqb}
 use Rattle.std.proofs.lemmas.Bool.Decides.{nat_tests}
 use Rattle.plat_base.specs.Machine.{Machine}
 use Rattle.plat_base.specs.Done.{operations_of}
@@ -17,9 +18,6 @@ use Rattle.plat_base.specs.declared.items.Item.TheVariants as item
 use Rattle.plat_laws.proofs.Limits.{and-right}
 use Rattle.plat_follow.specs.Followed.{FollowerSeen, Stands, Follows, IsMade, IsNextItem, AllStand, AllFollow, no_follower}
 use Rattle.plat_follow.proofs.FollowLemmas.{Follows-others}
-
-other_number : (a b : ℕ) → (a ≡ b → ⊥) → (a == b) ≡ false
-other_number a b n = grind (arith, nat_tests)
 
 -- ---- the follower of one processor
 
@@ -86,10 +84,10 @@ AllFollow-none m items i fs h n = record {
 
 pub IsMade-others :
     (m : Machine) (items : List Item) (q old r : ℕ) (i : Item) → IsMade m items q old i → r ≢ q → operations_of r (i ∷ []) ≡ []
-IsMade-others m items q old r (item.Access a) h n = rw (h.0, other_number q r (λ e. n (sym e)))
+IsMade-others m items q old r (item.Access a) h n = rw (h.0, ne_eqb q r (λ e. n (sym e)))
 IsMade-others m items q old r (item.Change c) h n = absurd h
 IsMade-others m items q old r (item.Applied x) h n = absurd h
-IsMade-others m items q old r (item.Switch s) h n = rw (h.0, other_number q r (λ e. n (sym e)))
+IsMade-others m items q old r (item.Switch s) h n = rw (h.0, ne_eqb q r (λ e. n (sym e)))
 
 -- what is made was the next operation
 pub IsMade-next : (m : Machine) (items : List Item) (q old : ℕ) (i : Item) → IsMade m items q old i → next_operation m items q ≢ None

@@ -1,11 +1,13 @@
 -- the run of one guest: earlier turns, a run that stays as it is, turns with and without an operation, values that are not read
-use Rattle.std.proofs.Common.{◌≡◌, ℕ, zero, suc, ◌+◌, ◌-◌, ◌<◌, ◌≤◌, Bool, true, false, List, [], ◌∷◌, ◌++◌, length, Option, Some, None, refl, arith, ap, ◌∙◌, add-zero, add-suc, if◌then◌else◌, not}
+use Rattle.std.proofs.Common.{◌≡◌, ℕ, zero, suc, ◌+◌, ◌-◌, ◌<◌, ◌≤◌, Bool, true, false, List, [], ◌∷◌, ◌++◌, length, Option, Some, None}
+use Rattle.std.proofs.Common.{refl, arith, ap, ◌∙◌, add-zero, add-suc, if◌then◌else◌, not}
 use Rattle.std.specs.Prelude.{slice_get}
 use Rattle.std.proofs.lemmas.List.{append-nil, length-append}
 use Rattle.std.proofs.lemmas.Option.{slice_get_past}
 use Rattle.plat_base.specs.Machine.{Machine, Program}
 use Rattle.plat_base.specs.Pages.{program_of}
-use Rattle.plat_base.specs.GuestRun.{GuestRun, GuestState, Reach, Outcome, GoesOn, HasHalted, HasTrapped, want_of, guest_after, value_for, reach_of, with_access, guest_does, guest_more, guest_run, executed, executed_next, wanted, wanted_next}
+use Rattle.plat_base.specs.GuestRun.{GuestRun, GuestState, Reach, Outcome, GoesOn, HasHalted, HasTrapped, want_of, guest_after, value_for}
+use Rattle.plat_base.specs.GuestRun.{reach_of, with_access, guest_does, guest_more, guest_run, executed, executed_next, wanted, wanted_next}
 use Rattle.plat_base.specs.Done.{reads_word}
 use Rattle.plat_base.specs.Rules.{wants_operation}
 use Rattle.plat_base.specs.declared.guests.Instr.{Instr}

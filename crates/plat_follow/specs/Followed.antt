@@ -1,11 +1,13 @@
 -- a guest as its follower knows it, and what that says of the items of a history
-use Rattle.std.specs.Prelude.{◌≡◌, ℕ, ◌+◌, ◌/◌, ◌<◌, ◌≤◌, ◌==◌, nat_lt, nat_le, ◌&&◌, not, Bool, true, false, List, [], length, Option, Some, None, slice_index_or}
+use Rattle.std.specs.Prelude.{◌≡◌, ℕ, ◌+◌, ◌/◌, ◌<◌, ◌≤◌, ◌==◌, nat_lt, nat_le, ◌&&◌, not, Bool, true, false, List, [], length, Option}
+use Rattle.std.specs.Prelude.{Some, None, slice_index_or}
 use Rattle.plat_base.specs.Machine.{Machine}
 use Rattle.plat_base.specs.Pages.{entry_at}
 use Rattle.plat_base.specs.GuestRun.{Operation, Reaches, Switches, guest_run, want_of}
 use Rattle.plat_base.specs.Done.{values_of, reads_word}
 use Rattle.plat_base.specs.Held.{held_through, has_right}
-use Rattle.plat_base.specs.Rules.{next_operation, is_access_next, is_switch_next, is_ordered_access, is_ordered_switch, wants_operation, is_end}
+use Rattle.plat_base.specs.Rules.{next_operation, is_access_next, is_switch_next, is_ordered_access, is_ordered_switch, wants_operation}
+use Rattle.plat_base.specs.Rules.{is_end}
 use Rattle.plat_base.specs.declared.guests.Want.{Want}
 use Rattle.plat_base.specs.declared.guests.Want.TheVariants as want
 use Rattle.plat_base.specs.declared.items.Item.{Item}

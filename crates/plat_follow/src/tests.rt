@@ -4,28 +4,20 @@ ghost use Rattle.plat_base.specs.Canon.{is_short};
 ghost use Rattle.plat_base.specs.Machine.{is_machine, program_seen};
 ghost use Rattle.plat_base.specs.Seen.{machine};
 ghost use Rattle.plat_follow.specs.Followed.{Stands};
-ghost use Rattle.plat_follow.specs.Tried.{guest, tried, two_entries};
+ghost use Rattle.plat_follow.specs.Tried.{labelled, tried};
 
 use crate::{Follower, Followers, Wanted, WantedAccess};
 use plat_base::{
-    Access, Applied, Config, End, Ended, Entry, Frame, GuestText, Instr, Item, Kind, Label, List,
-    Message, Moment, Name, OutOfMemory, Plan, PolicyKind, Switch,
+    Access, Applied, Config, End, Ended, Frame, GuestText, Instr, Item, Kind, Label, List, Message,
+    Moment, Name, OutOfMemory, PolicyKind, Switch,
 };
+use plat_samples::{Sizes, entry, listed, small, two_guests};
 use std::alloc::Global;
 use std::test::Fail;
 
-fn listed<T: Copy>(alloc: Global, items: &[T]) -> Result<List<T>, OutOfMemory>
-    ensures { IfOk result (λ list. list.items ≡ items.now) }
-{
-    let mut list = List::with_room(alloc, items.len())?;
-    for item in items {
-        list.push(*item);
-    }
-    Ok(list)
-}
-
-fn guest(alloc: Global, code: &[Instr], at: u32) -> Result<GuestText, OutOfMemory>
-    ensures { IfOk result (λ text. program_seen text ≡ guest code.now at) }
+// A guest with a label at a position.
+fn labelled(alloc: Global, code: &[Instr], at: u32) -> Result<GuestText, OutOfMemory>
+    ensures { IfOk result (λ text. program_seen text ≡ labelled code.now at) }
 {
     let mut labels = List::with_room(alloc, 1)?;
     labels.push(Label {
@@ -39,26 +31,6 @@ fn guest(alloc: Global, code: &[Instr], at: u32) -> Result<GuestText, OutOfMemor
     })
 }
 
-fn entries(alloc: Global) -> Result<List<Entry>, OutOfMemory>
-    ensures { IfOk result (λ list. list.items ≡ two_entries) }
-{
-    listed(
-        alloc,
-        &[
-            Entry {
-                space: 0,
-                vpage: 0,
-                page: 0,
-            },
-            Entry {
-                space: 0,
-                vpage: 1,
-                page: 1,
-            },
-        ],
-    )
-}
-
 // A machine of two guests, each with a label at a position.
 fn config(
     alloc: Global,
@@ -67,26 +39,24 @@ fn config(
     second: &[Instr],
     b: u32,
 ) -> Result<Config, OutOfMemory>
-    requires limits { IsTrue (is_machine (tried (guest first.now a ∷ guest second.now b ∷ []))) }
-    requires short { IsTrue (is_short (tried (guest first.now a ∷ guest second.now b ∷ []))) }
-    ensures { IfOk result (λ cfg. machine cfg ≡ tried (guest first.now a ∷ guest second.now b ∷ [])) }
+    requires limits { let guests = labelled first.now a ∷ labelled second.now b ∷ []
+        in IsTrue (is_machine (tried guests)) }
+    requires short { let guests = labelled first.now a ∷ labelled second.now b ∷ []
+        in IsTrue (is_short (tried guests)) }
+    ensures { let guests = labelled first.now a ∷ labelled second.now b ∷ []
+        in IfOk result (λ cfg. machine cfg ≡ tried guests) }
 {
-    let mut guests = List::with_room(alloc, 2)?;
-    guests.push(guest(alloc, first, a)?);
-    guests.push(guest(alloc, second, b)?);
-    Ok(Config {
+    let sizes = Sizes {
         nodes: 2,
         frames: 1,
-        words: 4,
         pages: 2,
-        policy: PolicyKind::Place,
         budget: 10,
-        schedule: Plan::Robin,
-        distances: List::new(alloc),
-        entries: entries(alloc)?,
-        inits: List::new(alloc),
-        guests,
-    })
+    };
+    let entries = [entry(0, 0), entry(1, 1)];
+    let first = labelled(alloc, first, a)?;
+    let second = labelled(alloc, second, b)?;
+    let guests = two_guests(alloc, first, second)?;
+    small(alloc, sizes, PolicyKind::Place, &entries, &[], guests)
 }
 
 // It stores 5 and adds 5 to the next word. It traps where that was 0, and else halts.

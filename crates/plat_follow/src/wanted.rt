@@ -7,7 +7,6 @@ ghost use Rattle.plat_base.specs.Seen.{machine};
 ghost use Rattle.plat_follow.specs.Wanted.{reach_seen, operation_seen};
 
 use plat_base::{Access, Config, Kind};
-use plat_guest::entry_at;
 
 /// An access that a guest wants. `addr` counts words within the space, and leads by the entry of the number `entry` to
 /// the word `word` of the page `page`. The operand is the stored or added value, and 0 for a load.
@@ -59,7 +58,7 @@ impl WantedAccess {
         ensures reach { reach_seen result ≡ reach_of (machine cfg.now) kind space addr operand }
         ensures entry { entry_at_of (machine cfg.now) space (addr / cfg.now.words) ≡ Some result.entry }
     {
-        let Some(entry) = entry_at(cfg, space, addr / cfg.words) else {
+        let Some(entry) = cfg.entry_at(space, addr / cfg.words) else {
             unreachable!();
         };
         WantedAccess {

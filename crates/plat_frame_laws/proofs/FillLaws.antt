@@ -25,7 +25,8 @@ use Rattle.plat_frame_laws.specs.Phased.{running}
 use Rattle.plat_frame_laws.specs.QuietPhases.{QuietPhase}
 use Rattle.plat_frame_laws.proofs.UnwrittenLaws.{good-unwritten}
 use Rattle.plat_frame_laws.proofs.QuietPhaseLaws.{quiet-filling, quiet-copying, quiet-fill_from, quiet-copy_from}
-use Rattle.plat_frame_laws.proofs.SessionHereLaws.{here, session, reached-session, taken, fills-got, copies-got}
+use Rattle.plat_local_laws.proofs.NameLaws.{copies-got}
+use Rattle.plat_frame_laws.proofs.SessionHereLaws.{here, session, reached-session, taken, fills-got}
 use Rattle.plat_frame_laws.proofs.StoreLaws.{shows-stored}
 
 module _ (m : Machine) (answer : Answer) (s : Fine) (a : ℕ) (x : Session) (limits : IsWithinLimits m) (shows : Shows m answer s)

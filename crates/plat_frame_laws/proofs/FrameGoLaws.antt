@@ -1,9 +1,7 @@
 -- what is kept, and what is in hand, where a session behind its shootdown goes on
-use Rattle.std.specs.Prelude.{◌≡◌, ◌≢◌, ◌⊎◌, ℕ, ◌<◌, ◌&&◌, not, true, false, List, Option, Some, None, IsTrue}
-use Rattle.std.proofs.Common.{ap, sym, ◌∙◌, inl, inr}
-use Rattle.std.specs.Option.{option_map_or}
+use Rattle.std.specs.Prelude.{◌≡◌, ◌≢◌, ℕ, ◌<◌, ◌&&◌, not, true, List, Option, Some, None, IsTrue}
+use Rattle.std.proofs.Common.{ap, sym, ◌∙◌}
 use Rattle.std.specs.List.{list_any}
-use Rattle.std.proofs.lemmas.Bool.{cases_eq}
 use Rattle.plat_base.specs.Verdicts.{Answer}
 use Rattle.plat_base.specs.Machine.{Machine}
 use Rattle.plat_base.specs.Copies.{same_frame}
@@ -14,7 +12,6 @@ use Rattle.plat_events.specs.Places.{is_name}
 use Rattle.plat_events.specs.Sessions.{Course, Phase, Session, with_phase}
 use Rattle.plat_events.specs.Privates.{InSession, actor_count}
 use Rattle.plat_events.specs.Events.{at}
-use Rattle.plat_events.specs.Standings.{hand_of}
 use Rattle.plat_events.specs.Kept.{session_on, gave_back, is_copy_of, is_kept, private_of}
 use Rattle.plat_events.specs.Runs.{Fine}
 use Rattle.plat_events.specs.Shown.{is_hand, Shows}
@@ -22,7 +19,8 @@ use Rattle.plat_fine_laws.specs.Changes.{Changes}
 use Rattle.plat_fine_laws.proofs.FrameFieldLaws.{is_kept-same}
 use Rattle.plat_frame_laws.specs.Phased.{is_of_frames, running}
 use Rattle.plat_frame_laws.specs.QuietPhases.{QuietPhase}
-use Rattle.plat_frame_laws.proofs.PhasedLaws.{ran, runs, others, keeps}
+use Rattle.plat_frame_laws.proofs.PhasedLaws.{ran, runs, keeps}
+use Rattle.plat_frame_laws.proofs.PhasedLaws
 use Rattle.plat_frame_laws.proofs.QuietGoesLaws.{given-quiet, hand-quiet}
 
 module _ (m : Machine) (answer : Answer) (s t : Fine) (a : ℕ) (name : WordName) (number : ℕ) (x : Session) (next : Phase)
@@ -70,27 +68,12 @@ module _ (m : Machine) (answer : Answer) (s t : Fine) (a : ℕ) (name : WordName
 
   -- where no frame is given back
   pub kept-still : gone' ≡ gone → (q : ℕ) (f : Frame) → is_kept m answer t q f ≡ is_kept m answer s q f
-  kept-still same q f = by (cases_eq q page)
-    where
-      own : is_kept m answer t page f ≡ is_kept m answer s page f
-      own = kept-after f ∙ (ap (λ fs. is_copy_of x.dir.copies f && not (list_any (same_frame f) fs)) same ∙ sym (kept-before f))
-
-      by : (q ≡ page) ⊎ (q ≢ page) → is_kept m answer t q f ≡ is_kept m answer s q f
-      by (inl e) = rw e own
-      by (inr n) = kept-other q f n
-
-  hand-same : hand_of (with_phase x next) ≡ hand_of x
-  hand-same = hand-quiet m answer a now x c next words' read' gone' to ∙ sym (hand-quiet m answer a now x c x.phase words read gone from)
+  kept-still same =
+      PhasedLaws.kept-still m answer s t a name number x next shows within stands changes named frames
+      (λ f. given-quiet m answer a now x c next words' read' gone' to f
+      ∙ (ap (list_any (same_frame f)) same ∙ sym (given-quiet m answer a now x c x.phase words read gone from f)))
 
   pub hand-still : (q : ℕ) (f : Frame) → is_hand (session_on t.privates q) f ≡ is_hand (session_on s.privates q) f
-  hand-still q f = by (cases_eq q page)
-    where
-      own : is_hand (session_on t.privates page) f ≡ is_hand (session_on s.privates page) f
-      own =
-          ap (λ o. is_hand o f) then
-          ∙ (ap (λ (o : Option Frame). option_map_or (same_frame f) o false) hand-same ∙ sym (ap (λ o. is_hand o f) there))
-
-      by : (q ≡ page) ⊎ (q ≢ page) → is_hand (session_on t.privates q) f ≡ is_hand (session_on s.privates q) f
-      by (inl e) = rw e own
-      by (inr n) =
-          ap (λ o. is_hand o f) (others m answer s t a name number x next shows within stands changes named frames q n)
+  hand-still =
+      PhasedLaws.hand-still m answer s t a name number x next shows within stands changes named frames
+      (hand-quiet m answer a now x c next words' read' gone' to ∙ sym (hand-quiet m answer a now x c x.phase words read gone from))

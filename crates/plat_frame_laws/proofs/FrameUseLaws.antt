@@ -1,5 +1,6 @@
 -- each frame is used once: the page that uses it is the only one, and with enough frames a session that has none finds one
-use Rattle.std.specs.Prelude.{◌≡◌, ◌≢◌, ◌⊎◌, ℕ, ◌+◌, ◌<◌, ◌≤◌, ◌==◌, not, if◌then◌else◌, Bool, true, false, sum_by, Option, Some, None, IsTrue}
+use Rattle.std.specs.Prelude.{◌≡◌, ◌≢◌, ◌⊎◌, ℕ, ◌+◌, ◌<◌, ◌≤◌, ◌==◌, not, if◌then◌else◌, Bool, true, false, sum_by, Option, Some, None}
+use Rattle.std.specs.Prelude.{IsTrue}
 use Rattle.std.proofs.Common.{refl, ap, sym, ◌∙◌, inl, inr, arith}
 use Rattle.std.specs.Option.{option_map_or}
 use Rattle.std.proofs.lemmas.Bool.{and_parts, eq-eqb}
@@ -23,8 +24,9 @@ use Rattle.plat_events.specs.Runs.{Fine}
 use Rattle.plat_events.specs.Shown.{bit_of, is_free, is_hand, uses_of, Shows}
 use Rattle.plat_laws.proofs.TableLaws.{dir_parts, copy_on-empty}
 use Rattle.plat_laws.proofs.NumberLaws.{pigeon-holes}
-use Rattle.plat_fine_laws.proofs.TableFacts.{same_frame-same, is_copy_of-on}
+use Rattle.plat_fine_laws.proofs.TableFacts.{is_copy_of-on}
 use Rattle.plat_frame_laws.proofs.SumLaws.{sum-at, sum-two, sum-some}
+use Rattle.plat_laws.proofs.SameLaws.{same_frame-true}
 
 -- how often a page uses a frame: as a kept copy, and in the hand of its session
 abbrev pub page_uses : Machine → Answer → Fine → Frame → (page : ℕ) → ℕ
@@ -60,7 +62,7 @@ is_hand-some (Some r) f h = (r, refl, by (hand_of r.session) h)
   where
     by : (o : Option Frame) → option_map_or (same_frame f) o false ≡ true → o ≡ Some f
     by None h = absurd cc
-    by (Some g) h = ap (λ (x : Frame). Some x) (sym (same_frame-same f g h))
+    by (Some g) h = ap (λ (x : Frame). Some x) (sym (same_frame-true f g h))
 
 -- ---- a frame that is used once
 

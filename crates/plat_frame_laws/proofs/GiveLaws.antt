@@ -1,9 +1,12 @@
 -- a frame that is given back to its pool keeps the invariant
-use Rattle.std.specs.Prelude.{◌≡◌, ◌≢◌, ◌⊎◌, ℕ, ◌+◌, ◌^◌, ◌<◌, ◌==◌, ◌&&◌, ◌||◌, not, nat_lt, Bool, true, false, List, length, take, Some, None, IsTrue, sum_by, bit_or}
+use Rattle.std.specs.Prelude.{◌≡◌, ◌≢◌, ◌⊎◌, ℕ, ◌+◌, ◌^◌, ◌<◌, ◌==◌, ◌&&◌, ◌||◌, not, nat_lt, Bool, true, false, List, length, take, Some}
+use Rattle.std.specs.Prelude.{None, IsTrue, sum_by, bit_or}
 use Rattle.std.proofs.Common.{refl, ap, sym, ◌∙◌, inl, inr, arith, subst}
 use Rattle.std.specs.List.{list_any}
-use Rattle.std.proofs.lemmas.Bool.{cases_eq, eq-eqb, ne_eqb}
+use Rattle.std.proofs.lemmas.Bool.{cases_eq, eq-eqb, ne_eqb, ltb-true}
 use Rattle.std.proofs.lemmas.Bool.Decides.{nat_tests}
+use Rattle.std.proofs.Math.Bool.{or-true}
+use Rattle.plat_laws.proofs.ItemLaws.{or-false}
 use Rattle.plat_base.specs.Verdicts.{Answer}
 use Rattle.plat_base.specs.Machine.{Machine}
 use Rattle.plat_base.specs.Pages.{numbers}
@@ -15,7 +18,7 @@ use Rattle.plat_base.specs.declared.words.Op.TheVariants as op
 use Rattle.plat_base.specs.declared.words.WordName.{WordName}
 use Rattle.plat_base.specs.declared.words.WordName.TheVariants as word
 use Rattle.plat_base.proofs.CopiesLemmas.{same_frame-itself}
-use Rattle.plat_words.proofs.Pools.{has_bit-given, given_below}
+use Rattle.plat_words.proofs.Pools.{given_below}
 use Rattle.plat_events.specs.Words.{has_bit}
 use Rattle.plat_events.specs.Places.{is_name, is_word}
 use Rattle.plat_events.specs.Sessions.{Course, Phase, Giving, Session, decision_of, going, frame_going, phase_after, with_phase}
@@ -30,7 +33,6 @@ use Rattle.plat_laws.proofs.TableLaws.{dir_parts}
 use Rattle.plat_local_laws.specs.Phases.{GivingOk, PhaseOk, SessionOk}
 use Rattle.plat_fine_laws.specs.Changes.{Changes}
 use Rattle.plat_fine_laws.proofs.WordLaws.{word_at-new, word_at-other}
-use Rattle.plat_fine_laws.proofs.TableFacts.{same_frame-same}
 use Rattle.plat_fine_laws.proofs.SessionFootprints.{giving-changes}
 use Rattle.plat_frame_laws.specs.Phased.{running}
 use Rattle.plat_frame_laws.specs.QuietPhases.{QuietPhase}
@@ -45,6 +47,8 @@ use Rattle.plat_frame_laws.proofs.PhasedLaws.{shows-phased}
 use Rattle.plat_frame_laws.proofs.SessionHereLaws.{here, session, reached-session}
 use Rattle.plat_frame_laws.proofs.StoreLaws.{pool-named, pool-apart, frame-node}
 use Rattle.plat_frame_laws.proofs.StillFrameLaws.{KeepsFrames-pool, frames-still}
+use Rattle.plat_words.proofs.SingleBits.{has_bit-set}
+use Rattle.plat_laws.proofs.SameLaws.{same_frame-true}
 
 module _ (m : Machine) (answer : Answer) (s : Fine) (a : ℕ) (x : Session) (c : Course) (k : ℕ) (limits : IsWithinLimits m)
     (shows : Shows m answer s) (within : a < actor_count m) (stands : (private_of m s a).place ≡ InSession x)
@@ -110,11 +114,8 @@ module _ (m : Machine) (answer : Answer) (s : Fine) (a : ℕ) (x : Session) (c :
   found-fits = shows.words_encoded name named
 
   encoded : IsTrue (is_word m name made)
-  encoded = fits found f.number m.frames (below found (2 ^ m.frames) found-fits) (number-below f-frame)
+  encoded = fits found f.number m.frames (ltb-true found (2 ^ m.frames) found-fits) (number-below f-frame)
     where
-      below : (n top : ℕ) → nat_lt n top ≡ true → n < top
-      below n top h = grind (arith, nat_tests)
-
       number-below : is_frame m f ≡ true → f.number < m.frames
       number-below h = grind (arith, nat_tests)
 
@@ -200,12 +201,8 @@ module _ (m : Machine) (answer : Answer) (s : Fine) (a : ℕ) (x : Session) (c :
   free-now : is_free m t f ≡ true
   free-now =
       ap (λ n. has_bit n f.number) word-new
-      ∙ (has_bit-given found f.number f.number
-      ∙ (ap (λ b. has_bit found f.number || b) (eq-eqb f.number f.number refl) ∙ either (has_bit found f.number)))
-    where
-      either : (b : Bool) → (b || true) ≡ true
-      either true = refl
-      either false = refl
+      ∙ (has_bit-set found f.number f.number
+      ∙ (ap (λ b. has_bit found f.number || b) (eq-eqb f.number f.number refl) ∙ or-true (has_bit found f.number)))
 
   once-given : uses_of m answer t f ≡ 1
   once-given =
@@ -238,21 +235,17 @@ module _ (m : Machine) (answer : Answer) (s : Fine) (a : ℕ) (x : Session) (c :
     same-false = by (same_frame g f) refl
       where
         by : (b : Bool) → same_frame g f ≡ b → same_frame g f ≡ false
-        by true e = absurd (apart (same_frame-same g f e))
+        by true e = absurd (apart (same_frame-true g f e))
         by false e = e
 
     kept-same : (q : ℕ) → is_kept m answer t q g ≡ is_kept m answer s q g
     kept-same q = by (cases_eq q page)
       where
-        plain : (d : Bool) → (d || false) ≡ d
-        plain true = refl
-        plain false = refl
-
         own : is_kept m answer t page g ≡ is_kept m answer s page g
         own =
             after g
             ∙ (ap (λ b. is_copy_of x.dir.copies g && not (list_any (same_frame g) (take k goes) || b)) same-false
-            ∙ (ap (λ b. is_copy_of x.dir.copies g && not b) (plain (list_any (same_frame g) (take k goes))) ∙ sym (before g)))
+            ∙ (ap (λ b. is_copy_of x.dir.copies g && not b) (or-false (list_any (same_frame g) (take k goes))) ∙ sym (before g)))
 
         by : (q ≡ page) ⊎ (q ≢ page) → is_kept m answer t q g ≡ is_kept m answer s q g
         by (inl e) = rw e own
@@ -261,19 +254,15 @@ module _ (m : Machine) (answer : Answer) (s : Fine) (a : ℕ) (x : Session) (c :
     free-same : is_free m t g ≡ is_free m s g
     free-same = by (cases_eq g.module f.module)
       where
-        plain : (d : Bool) → (d || false) ≡ d
-        plain true = refl
-        plain false = refl
-
         by : (g.module ≡ f.module) ⊎ (g.module ≢ f.module) → is_free m t g ≡ is_free m s g
         by (inl e) =
             let number : (g.number == f.number) ≡ false =
             ne_eqb g.number f.number (λ n. apart (λ i. record { «module» = e i; number = n i })) in
             ap (λ mo. has_bit (word_at m t (word.Pool mo)) g.number) e
             ∙ (ap (λ n. has_bit n g.number) word-new
-            ∙ (has_bit-given found f.number g.number
+            ∙ (has_bit-set found f.number g.number
             ∙ (ap (λ b. has_bit found g.number || b) number
-            ∙ (plain (has_bit found g.number) ∙ ap (λ mo. has_bit (word_at m s (word.Pool mo)) g.number) (sym e)))))
+            ∙ (or-false (has_bit found g.number) ∙ ap (λ mo. has_bit (word_at m s (word.Pool mo)) g.number) (sym e)))))
         by (inr n) =
             ap (λ v. has_bit v g.number)
             (word_at-other m s t a name made (at p (InSession (with_phase x next))) None changes (word.Pool g.module) named
@@ -290,7 +279,7 @@ module _ (m : Machine) (answer : Answer) (s : Fine) (a : ℕ) (x : Session) (c :
   once g machine = by (same_frame g f) refl
     where
       by : (b : Bool) → same_frame g f ≡ b → uses_of m answer t g ≡ 1
-      by true e = subst (λ (y : Frame). uses_of m answer t y ≡ 1) (sym (same_frame-same g f e)) once-given
+      by true e = subst (λ (y : Frame). uses_of m answer t y ≡ 1) (sym (same_frame-true g f e)) once-given
       by false e = once-other g machine (λ same. not_same (ap (same_frame g) (sym same) ∙ same_frame-itself g) e)
         where
           not_same : same_frame g f ≡ true → same_frame g f ≡ false → ⊥

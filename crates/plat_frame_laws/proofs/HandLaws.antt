@@ -13,7 +13,8 @@ use Rattle.plat_base.specs.declared.frames.Dir.{Dir}
 use Rattle.plat_base.specs.declared.items.Cause.{Cause}
 use Rattle.plat_base.specs.declared.items.Cause.TheVariants as cause
 use Rattle.plat_base.specs.declared.policies.Verdict.TheVariants as verdict
-use Rattle.plat_events.specs.Sessions.{Course, Phase, Stamping, Seeking, Taking, Returning, Shooting, Filling, Reading, Copying, Giving, Storing, Granting, Unlocking, Session}
+use Rattle.plat_events.specs.Sessions.{Course, Phase, Stamping, Seeking, Taking, Returning, Shooting, Filling, Reading, Copying, Giving}
+use Rattle.plat_events.specs.Sessions.{Storing, Granting, Unlocking, Session}
 use Rattle.plat_events.specs.Privates.{Private, actor_count}
 use Rattle.plat_events.specs.Standings.{course_of, words_filled, hand_of}
 use Rattle.plat_events.specs.Kept.{Running, session_on, is_copy_of, private_of}

@@ -4,6 +4,7 @@ pub mod UnwrittenLaws
 pub mod OwnSessionLaws
 pub mod StillLaws
 pub mod ContinueLaws
+pub mod SessionMovedLaws
 pub mod PhasedLaws
 pub mod QuietPhaseLaws
 pub mod QuietGoesLaws

@@ -1,9 +1,10 @@
 -- a session behind its shootdown goes on: what it owes the invariant of its next phase
-use Rattle.std.specs.Prelude.{◌≡◌, ◌≢◌, ◌⊎◌, ℕ, zero, suc, ◌+◌, ◌<◌, ◌≤◌, ◌==◌, ◌&&◌, ◌||◌, Bool, true, false, List, [], ◌∷◌, length, take, filter, cond, Option, Some, None}
-use Rattle.std.proofs.Common.{refl, ap, sym, ◌∙◌, inl, inr, arith}
+use Rattle.std.specs.Prelude.{◌≡◌, ℕ, ◌<◌, ◌≤◌, ◌==◌, ◌&&◌, Bool, true, false, List, [], length, take}
+use Rattle.std.specs.Prelude.{Option, Some, None}
+use Rattle.std.proofs.Common.{refl, ap, sym, ◌∙◌, arith}
 use Rattle.std.specs.Option.{option_map_or}
-use Rattle.std.specs.List.{list_any, range_with_len}
-use Rattle.std.proofs.lemmas.Bool.{cases_eq, eq-eqb}
+use Rattle.std.specs.List.{list_any}
+use Rattle.std.proofs.lemmas.Bool.{eq-eqb}
 use Rattle.std.proofs.lemmas.List.{take_all}
 use Rattle.plat_base.specs.Verdicts.{Answer}
 use Rattle.plat_base.specs.Machine.{Machine}
@@ -25,40 +26,16 @@ use Rattle.plat_events.specs.Views.{session_viewed, same_translation}
 use Rattle.plat_events.specs.Runs.{Fine}
 use Rattle.plat_events.specs.Shown.{Shows}
 use Rattle.plat_fine_laws.proofs.TableFacts.{decided-given}
+use Rattle.plat_fine_laws.proofs.ViewFactLaws.{among-range}
 use Rattle.plat_frame_laws.specs.Phased.{running, Continues, PhaseGoes}
 use Rattle.plat_frame_laws.specs.QuietPhases.{QuietPhase}
 
 -- ---- the entries of a page
 
-entry_first :
-    (test : ℕ → Bool) (a e : ℕ) (rest : List ℕ) (b : Bool) → test a ≡ b → test e ≡ true →
-    (a ≡ e) ⊎ (list_any (λ x. x == e) rest ≡ true) → list_any (λ x. x == e) (cond b (a ∷ rest) rest) ≡ true
-entry_first test a e rest true is passes (inl same) = ap (λ b. b || list_any (λ x. x == e) rest) (eq-eqb a e same)
-entry_first test a e rest true is passes (inr later) = more (a == e) later
-  where
-    more : (b : Bool) → list_any (λ x. x == e) rest ≡ true → (b || list_any (λ x. x == e) rest) ≡ true
-    more true h = refl
-    more false h = h
-entry_first test a e rest false is passes (inl same) = let here : test e ≡ false = ap test (sym same) ∙ is in absurd cc
-entry_first test a e rest false is passes (inr later) = later
-
-entries_have :
-    (test : ℕ → Bool) (a n e : ℕ) → a ≤ e → e < a + n → test e ≡ true → list_any (λ x. x == e) (filter test (range_with_len a n)) ≡ true
-entries_have test a zero e low high passes = absurd (omega arith)
-entries_have test a (suc n) e low high passes =
-    entry_first test a e (filter test (range_with_len (a + 1) n)) (test a) refl passes
-    (by (cases_eq a e) (λ more. entries_have test (a + 1) n e more (omega arith) passes))
-  where
-    by :
-        (a ≡ e) ⊎ (a ≢ e) → (a + 1 ≤ e → list_any (λ x. x == e) (filter test (range_with_len (a + 1) n)) ≡ true) →
-        (a ≡ e) ⊎ (list_any (λ x. x == e) (filter test (range_with_len (a + 1) n)) ≡ true)
-    by (inl same) more = inl same
-    by (inr other) more = inr (more (omega arith))
-
 pub entry_of_page :
     (m : Machine) (page e : ℕ) → e < entry_count m → page_of m e ≡ page → list_any (λ x. x == e) (entries_of_page m page) ≡ true
 entry_of_page m page e below is =
-    entries_have (λ k. page_of m k == page) 0 (entry_count m) e (omega arith) (omega arith) (eq-eqb (page_of m e) page is)
+    among-range (λ k. page_of m k == page) 0 (entry_count m) e (omega arith) (omega arith) (eq-eqb (page_of m e) page is)
 
 -- ---- the frames that are given back
 
@@ -160,17 +137,19 @@ module _ (m : Machine) (answer : Answer) (s : Fine) (a now : ℕ) (x : Session) 
 
     pub quiet-goes : PhaseGoes m answer a now x next
     quiet-goes = record {
-      stamp = λ st read. from.stamp ∙ (sym to.stamp ∙ read);
-      unstored = from.stamped;
-      unstamped = to.stamped;
-      apart = λ f hand.
-          let before : hand_of x ≡ Some f =
-          hand-quiet m answer a now x c x.phase filled copied given from
-          ∙ (sym (hand-quiet m answer a now x c next filled' copied' given' to) ∙ hand) in
-          ap (λ (d : Dir). copy_on f.module d.copies) dir-own ∙ shows.hand_apart page (running a now x) f ran before;
-      finds = λ enough empty. to.saw ∙ (sym from.saw ∙ shows.enough_finds enough page (running a now x) ran empty);
-      posts = λ quiet removes.
-          ap length (posts-quiet m answer a now x c next filled' copied' given' to)
-          ∙ posts-made (sym (ap removes_some (removes-quiet m answer a now x c next filled' copied' given' to)) ∙ removes);
+      follows = record {
+        stamp = λ st read. from.stamp ∙ (sym to.stamp ∙ read);
+        unstored = from.stamped;
+        unstamped = to.stamped;
+        apart = λ f hand.
+            let before : hand_of x ≡ Some f =
+            hand-quiet m answer a now x c x.phase filled copied given from
+            ∙ (sym (hand-quiet m answer a now x c next filled' copied' given' to) ∙ hand) in
+            ap (λ (d : Dir). copy_on f.module d.copies) dir-own ∙ shows.hand_apart page (running a now x) f ran before;
+        finds = λ enough empty. to.saw ∙ (sym from.saw ∙ shows.enough_finds enough page (running a now x) ran empty);
+        posts = λ quiet removes.
+            ap length (posts-quiet m answer a now x c next filled' copied' given' to)
+            ∙ posts-made (sym (ap removes_some (removes-quiet m answer a now x c next filled' copied' given' to)) ∙ removes);
+      };
       continues = continues;
     }

@@ -1,94 +1,34 @@
 -- the phases behind a shootdown, and those that follow them
-use Rattle.std.specs.Prelude.{◌≡◌, ℕ, ◌<◌, ◌≤◌, nat_lt, if◌then◌else◌, Bool, true, false, List, [], length, take, Some, None}
+use Rattle.std.specs.Prelude.{◌≡◌, ℕ, ◌≤◌, nat_lt, if◌then◌else◌, Bool, true, false, List, [], length, take, Some, None}
 use Rattle.std.proofs.Common.{refl, sym, arith, subst}
-use Rattle.std.proofs.lemmas.Bool.Decides.{nat_tests}
 use Rattle.std.proofs.lemmas.List.{take_all}
+use Rattle.std.proofs.lemmas.Bool.{ltb-false}
 use Rattle.plat_base.specs.Verdicts.{Answer}
 use Rattle.plat_base.specs.Machine.{Machine}
 use Rattle.plat_base.specs.declared.frames.Frame.{Frame}
-use Rattle.plat_events.specs.Sessions.{Course, Filling, Reading, Copying, Giving, Storing, Session, decision_of, going, give_from, fill_from, copy_from}
+use Rattle.plat_events.specs.Sessions.{Course, Filling, Reading, Copying, Giving, Storing, Session, decision_of, going, give_from}
+use Rattle.plat_events.specs.Sessions.{fill_from, copy_from}
 use Rattle.plat_frame_laws.specs.QuietPhases.{QuietPhase}
-
-below_or : (k n : ℕ) → nat_lt k n ≡ true → k < n
-below_or k n h = grind (arith, nat_tests)
-
-not_below : (k n : ℕ) → nat_lt k n ≡ false → n ≤ k
-not_below k n h = grind (arith, nat_tests)
 
 module _ (m : Machine) (answer : Answer) (a now : ℕ) (x : Session) (c : Course) where
   abbrev goes : List Frame
   goes = going x.dir (decision_of m answer a now x c)
 
   pub quiet-filling : (w : ℕ) → QuietPhase m answer a now x c (Filling c w) w None []
-  quiet-filling w = record {
-    course = refl;
-    stamp = refl;
-    quiet = refl;
-    left = λ ts. refl;
-    unlocking = refl;
-    stamped = refl;
-    filled = refl;
-    copied = refl;
-    given = refl;
-    saw = refl;
-  }
+  quiet-filling w = search arith
 
   pub quiet-reading : (w : ℕ) → QuietPhase m answer a now x c (Reading c w) w None []
-  quiet-reading w = record {
-    course = refl;
-    stamp = refl;
-    quiet = refl;
-    left = λ ts. refl;
-    unlocking = refl;
-    stamped = refl;
-    filled = refl;
-    copied = refl;
-    given = refl;
-    saw = refl;
-  }
+  quiet-reading w = search arith
 
   pub quiet-copying : (w seen : ℕ) → QuietPhase m answer a now x c (Copying c w seen) w (Some (w, seen)) []
-  quiet-copying w seen = record {
-    course = refl;
-    stamp = refl;
-    quiet = refl;
-    left = λ ts. refl;
-    unlocking = refl;
-    stamped = refl;
-    filled = refl;
-    copied = refl;
-    given = refl;
-    saw = refl;
-  }
+  quiet-copying w seen = search arith
 
   pub quiet-giving : (k : ℕ) → QuietPhase m answer a now x c (Giving c k) m.words None (take k (going x.dir (decision_of m answer a now x
       c)))
-  quiet-giving k = record {
-    course = refl;
-    stamp = refl;
-    quiet = refl;
-    left = λ ts. refl;
-    unlocking = refl;
-    stamped = refl;
-    filled = refl;
-    copied = refl;
-    given = refl;
-    saw = refl;
-  }
+  quiet-giving k = search arith
 
   quiet-storing : QuietPhase m answer a now x c (Storing c) m.words None (going x.dir (decision_of m answer a now x c))
-  quiet-storing = record {
-    course = refl;
-    stamp = refl;
-    quiet = refl;
-    left = λ ts. refl;
-    unlocking = refl;
-    stamped = refl;
-    filled = refl;
-    copied = refl;
-    given = refl;
-    saw = refl;
-  }
+  quiet-storing = search arith
 
   -- so many frames are given back, and the next one is, or the stamp is stored
   pub quiet-give_from :
@@ -100,7 +40,7 @@ module _ (m : Machine) (answer : Answer) (a now : ℕ) (x : Session) (c : Course
           (take k goes)
       by true left = quiet-giving k
       by false left =
-          let all : length goes ≤ k = not_below k (length goes) left in
+          let all : length goes ≤ k = ltb-false k (length goes) left in
           subst (QuietPhase m answer a now x c (Storing c) m.words None) (sym (take_all k goes all)) quiet-storing
 
   -- so many words are filled, and the next one is, or the frames are given back
@@ -112,7 +52,7 @@ module _ (m : Machine) (answer : Answer) (a now : ℕ) (x : Session) (c : Course
           w None []
       by true left = quiet-filling w
       by false left =
-          let all : m.words ≡ w = let least = not_below w m.words left in omega arith in
+          let all : m.words ≡ w = let least = ltb-false w m.words left in omega arith in
           subst (λ n. QuietPhase m answer a now x c (give_from m answer a now x c 0) n None []) all (quiet-give_from 0 (omega arith))
 
   pub quiet-copy_from :
@@ -123,5 +63,5 @@ module _ (m : Machine) (answer : Answer) (a now : ℕ) (x : Session) (c : Course
           w None []
       by true left = quiet-reading w
       by false left =
-          let all : m.words ≡ w = let least = not_below w m.words left in omega arith in
+          let all : m.words ≡ w = let least = ltb-false w m.words left in omega arith in
           subst (λ n. QuietPhase m answer a now x c (give_from m answer a now x c 0) n None []) all (quiet-give_from 0 (omega arith))

@@ -34,7 +34,8 @@ use Rattle.plat_frame_laws.proofs.QuietPhaseLaws.{quiet-reading, quiet-copying}
 use Rattle.plat_frame_laws.proofs.QuietGoesLaws.{hand-quiet, quiet-goes}
 use Rattle.plat_frame_laws.proofs.FrameGoLaws.{kept-before, kept-still, hand-still}
 use Rattle.plat_frame_laws.proofs.PhasedLaws.{shows-phased}
-use Rattle.plat_frame_laws.proofs.SessionHereLaws.{here, session, reached-session, taken, copies-got}
+use Rattle.plat_local_laws.proofs.NameLaws.{copies-got}
+use Rattle.plat_frame_laws.proofs.SessionHereLaws.{here, session, reached-session, taken}
 use Rattle.plat_frame_laws.proofs.StoreLaws.{memory-named}
 use Rattle.plat_frame_laws.proofs.StillFrameLaws.{KeepsFrames-loaded, frames-still}
 

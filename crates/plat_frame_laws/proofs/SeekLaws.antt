@@ -12,7 +12,8 @@ use Rattle.plat_base.specs.declared.words.Op.TheVariants as op
 use Rattle.plat_base.specs.declared.words.WordName.TheVariants as word
 use Rattle.plat_events.specs.Words.{has_bit, without_lowest}
 use Rattle.plat_events.specs.Places.{is_name, is_word}
-use Rattle.plat_events.specs.Sessions.{Stamp, Phase, Seeking, Taking, Session, module_tried, phase_after, pool_found, frame_taken, with_frame_got, with_phase}
+use Rattle.plat_events.specs.Sessions.{Stamp, Phase, Seeking, Taking, Session, module_tried, phase_after, pool_found, frame_taken}
+use Rattle.plat_events.specs.Sessions.{with_frame_got, with_phase}
 use Rattle.plat_events.specs.Standings.{stamp_of, saw_no_frame}
 use Rattle.plat_events.specs.Privates.{InSession, Private, actor_count}
 use Rattle.plat_events.specs.Events.{at}

@@ -1,5 +1,5 @@
 -- an actor in a session: what it alone says of it, and its private state behind the operation
-use Rattle.std.specs.Prelude.{◌≡◌, ◌≢◌, ℕ, ◌<◌, if◌then◌else◌, true, Some, None, IsTrue, slice_get}
+use Rattle.std.specs.Prelude.{◌≡◌, ℕ, ◌<◌, if◌then◌else◌, true, Some, None, IsTrue, slice_get}
 use Rattle.std.proofs.Common.{refl, ap, sym, ◌∙◌, inl, inr, arith, subst}
 use Rattle.std.proofs.lemmas.Bool.{true≢false}
 use Rattle.plat_base.specs.Verdicts.{Answer}
@@ -17,7 +17,7 @@ use Rattle.plat_events.specs.Runs.{Fine}
 use Rattle.plat_events.specs.Shown.{IsReachedAlone, Shows}
 use Rattle.plat_laws.specs.Guests.{IsWithinLimits}
 use Rattle.plat_laws.proofs.TableLaws.{DecideFacts}
-use Rattle.plat_local_laws.specs.Phases.{CourseOk, SessionOk, fills_words, copies_words}
+use Rattle.plat_local_laws.specs.Phases.{CourseOk, SessionOk, fills_words}
 use Rattle.plat_local_laws.specs.Standing.{PlaceOk}
 use Rattle.plat_local_laws.proofs.CourseLaws.{IsActor, fault_decides, thaw_decides}
 use Rattle.plat_local_laws.proofs.StandingLaws.{actor-is}
@@ -33,15 +33,6 @@ fills-got action.Replicate h = absurd cc
 fills-got action.Migrate h = absurd cc
 fills-got action.Collapse h = absurd cc
 fills-got action.Thaw h = absurd cc
-
-pub copies-got : (act : Action) → copies_words act ≡ true → (act ≢ action.Fill) × (names_got act ≡ true)
-copies-got action.Fill h = absurd cc
-copies-got action.MapLocal h = absurd cc
-copies-got action.MapRemote h = absurd cc
-copies-got action.Replicate h = (λ e. absurd cc, refl)
-copies-got action.Migrate h = (λ e. absurd cc, refl)
-copies-got action.Collapse h = absurd cc
-copies-got action.Thaw h = absurd cc
 
 module _ (m : Machine) (answer : Answer) (s : Fine) (a : ℕ) (x : Session) (limits : IsWithinLimits m) (shows : Shows m answer s)
     (within : a < actor_count m) (stands : (private_of m s a).place ≡ InSession x) where

@@ -1,15 +1,15 @@
 -- a session that seeks a frame goes on: the invariant holds on
-use Rattle.std.specs.Prelude.{◌≡◌, ◌≢◌, ◌⊎◌, ℕ, ◌<◌, ◌==◌, ◌&&◌, not, Bool, true, false, List, [], length, take, Option, Some, None, IsTrue}
-use Rattle.std.proofs.Common.{refl, ap, sym, ◌∙◌, inl, inr, arith}
+use Rattle.std.specs.Prelude.{◌≡◌, ◌≢◌, ℕ, ◌<◌, ◌==◌, ◌&&◌, true, false, List, [], length, take, Option, Some, None, IsTrue}
+use Rattle.std.proofs.Common.{refl, ap, sym, ◌∙◌, arith}
 use Rattle.std.specs.Option.{option_map_or}
 use Rattle.std.specs.List.{list_any}
-use Rattle.std.proofs.lemmas.Bool.{cases_eq, true≢false}
+use Rattle.std.proofs.lemmas.Bool.{true≢false}
+use Rattle.std.proofs.Math.Bool.{and-false}
 use Rattle.plat_base.specs.Verdicts.{Answer}
 use Rattle.plat_base.specs.Machine.{Machine}
 use Rattle.plat_base.specs.Pages.{entries_of_page}
 use Rattle.plat_base.specs.Copies.{same_frame, copy_on}
 use Rattle.plat_base.specs.Decide.{is_empty, is_frame}
-use Rattle.plat_base.specs.Directories.{dir_of}
 use Rattle.plat_base.specs.Messages.{removes_some}
 use Rattle.plat_base.specs.Rules.{HasEnoughFrames}
 use Rattle.plat_base.specs.declared.frames.Frame.{Frame}
@@ -20,44 +20,40 @@ use Rattle.plat_events.specs.Shootdowns.{Target, targets}
 use Rattle.plat_events.specs.Sessions.{Stamp, Course, Phase, Session, translation_made, with_phase}
 use Rattle.plat_events.specs.Privates.{InSession, actor_count}
 use Rattle.plat_events.specs.Events.{at}
-use Rattle.plat_events.specs.Standings.{stamp_of, unlocking_of, posts_of, removes_by, has_posted, waits_for, has_given, saw_no_frame, words_filled, word_copied}
-use Rattle.plat_events.specs.Kept.{session_on, gave_back, is_copy_of, is_kept, private_of}
+use Rattle.plat_events.specs.Standings.{stamp_of, unlocking_of, posts_of, removes_by, has_posted, waits_for, has_given, saw_no_frame}
+use Rattle.plat_events.specs.Standings.{words_filled, word_copied}
+use Rattle.plat_events.specs.Kept.{session_on, is_kept, private_of}
 use Rattle.plat_events.specs.Views.{session_viewed, same_translation}
 use Rattle.plat_events.specs.Runs.{Fine}
 use Rattle.plat_events.specs.Shown.{is_hand, uses_of, IsReachedAlone, Shows}
 use Rattle.plat_laws.specs.Guests.{IsWithinLimits}
 use Rattle.plat_fine_laws.specs.Changes.{Changes}
-use Rattle.plat_fine_laws.proofs.FrameFieldLaws.{is_kept-same}
 use Rattle.plat_frame_laws.specs.Phased.{is_of_frames, running, Continues, PhaseGoes}
 use Rattle.plat_frame_laws.specs.StartPhases.{StartPhase}
 use Rattle.plat_frame_laws.proofs.StartPhaseLaws.{targets-none}
-use Rattle.plat_frame_laws.proofs.PhasedLaws.{ran, runs, others, keeps, shows-phased}
+use Rattle.plat_frame_laws.proofs.PhasedLaws.{ran, runs, others, kept-still, shows-phased}
 use Rattle.plat_frame_laws.proofs.StillFrameLaws.{KeepsFrames, frames-still}
-
-false_and : (b : Bool) → (b && false) ≡ false
-false_and true = refl
-false_and false = refl
 
 -- ---- what such a phase says to a processor and an entry
 
 module _ (m : Machine) (answer : Answer) (a now : ℕ) (x : Session) (st : Stamp) (got : Option Frame) (ph : Phase)
     (is : StartPhase m answer a now x st got ph) where
-  unposted : (e : ℕ) → has_posted m answer a now (with_phase x ph) e ≡ false
+  pub unposted : (e : ℕ) → has_posted m answer a now (with_phase x ph) e ≡ false
   unposted e =
       ap
       (λ (ps : List ℕ). removes_some (removes_by m answer a now (with_phase x ph))
       && list_any (λ y. y == e) (take (length ps) (entries_of_page m x.fault.page)))
       is.posts
-      ∙ false_and (removes_some (removes_by m answer a now (with_phase x ph)))
+      ∙ and-false (removes_some (removes_by m answer a now (with_phase x ph)))
 
-  unowed : (e q : ℕ) → waits_for m a (with_phase x ph) e q ≡ false
+  pub unowed : (e q : ℕ) → waits_for m a (with_phase x ph) e q ≡ false
   unowed e q =
       let none : targets m a x.fault.page (posts_of (with_phase x ph)) ≡ [] =
       ap (λ (ps : List ℕ). targets m a x.fault.page ps) is.posts ∙ targets-none m a (entries_of_page m x.fault.page) in
       ap (list_any (λ (t : Target). t.entry == e && t.processor == q)) (is.left (targets m a x.fault.page (posts_of (with_phase x ph)))
       none)
 
-  ungiven : (t : Option Translation) → option_map_or (λ (y : Translation). has_given m answer a now (with_phase x ph) y.grant.frame) t
+  pub ungiven : (t : Option Translation) → option_map_or (λ (y : Translation). has_given m answer a now (with_phase x ph) y.grant.frame) t
       false ≡ false
   ungiven None = refl
   ungiven (Some y) = is.given y.grant.frame
@@ -91,12 +87,14 @@ module _ (m : Machine) (answer : Answer) (a now : ℕ) (x : Session) (st : Stamp
       ((f : Frame) → got ≡ Some f → copy_on f.module x.dir.copies ≡ None) →
       (HasEnoughFrames m → IsTrue (is_empty x.dir.state) → saw_no_frame m a next ≡ false) → PhaseGoes m answer a now x next
   start-goes apart finds = record {
-    stamp = λ u read. stamp ∙ ap (λ (y : Stamp). Some y) (sym (to.stamp u read));
-    unstored = from.stamped;
-    unstamped = to.stamped;
-    apart = λ f hand. apart f (sym to.hand ∙ hand);
-    finds = finds;
-    posts = λ quiet removes. ap length to.posts ∙ to.quiet quiet removes;
+    follows = record {
+      stamp = λ u read. stamp ∙ ap (λ (y : Stamp). Some y) (sym (to.stamp u read));
+      unstored = from.stamped;
+      unstamped = to.stamped;
+      apart = λ f hand. apart f (sym to.hand ∙ hand);
+      finds = finds;
+      posts = λ quiet removes. ap length to.posts ∙ to.quiet quiet removes;
+    };
     continues = λ q e t below of_page. start-continues q e t;
   }
 
@@ -121,22 +119,7 @@ module _ (m : Machine) (answer : Answer) (s t : Fine) (a : ℕ) (name : WordName
   then = runs m answer s t a name number x next shows within stands changes named frames
 
   pub start-kept : (q : ℕ) (f : Frame) → is_kept m answer t q f ≡ is_kept m answer s q f
-  start-kept q f = by (cases_eq q page)
-    where
-      back : gave_back m answer (session_on t.privates page) f ≡ gave_back m answer (session_on s.privates page) f
-      back =
-          ap (λ o. gave_back m answer o f) then
-          ∙ (to.given f ∙ (sym (from.given f) ∙ sym (ap (λ o. gave_back m answer o f) there)))
-
-      history-same : t.history ≡ s.history
-      history-same = changes.history
-
-      own : is_kept m answer t page f ≡ is_kept m answer s page f
-      own = λ i. is_copy_of (dir_of (history-same i) page).copies f && not (back i)
-
-      by : (q ≡ page) ⊎ (q ≢ page) → is_kept m answer t q f ≡ is_kept m answer s q f
-      by (inl e) = rw e own
-      by (inr n) = is_kept-same m answer s t q f (keeps m answer s t a name number x next shows within stands changes named frames q n)
+  start-kept = kept-still m answer s t a name number x next shows within stands changes named frames (λ f. to.given f ∙ sym (from.given f))
 
   pub start-hand_before : (f : Frame) → is_hand (session_on s.privates page) f ≡ false
   start-hand_before f = ap (λ o. is_hand o f) there ∙ ap (λ (o : Option Frame). option_map_or (same_frame f) o false) from.hand

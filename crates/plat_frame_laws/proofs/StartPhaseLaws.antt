@@ -14,7 +14,8 @@ use Rattle.plat_base.specs.declared.frames.Frame.{Frame}
 use Rattle.plat_base.specs.declared.items.Action.{Action}
 use Rattle.plat_base.specs.declared.items.Action.TheVariants as action
 use Rattle.plat_events.specs.Shootdowns.{Posting, Asking, Makes, Done, targets_of, targets, ask_from, shoot_from}
-use Rattle.plat_events.specs.Sessions.{Stamp, Course, Phase, Seeking, Taking, Returning, Shooting, Session, decision_of, tried, with_shoot, shot_over, with_frame_got, seek_from, pool_found}
+use Rattle.plat_events.specs.Sessions.{Stamp, Course, Phase, Stamping, Seeking, Taking, Returning, Shooting, Session, decision_of, tried}
+use Rattle.plat_events.specs.Sessions.{with_shoot, shot_over, with_frame_got, seek_from, pool_found}
 use Rattle.plat_events.specs.Standings.{took_farther, saw_no_frame}
 use Rattle.plat_frame_laws.specs.QuietPhases.{QuietPhase}
 use Rattle.plat_frame_laws.specs.StartPhases.{StartPhase}
@@ -30,47 +31,17 @@ some_stamp : (st u : Stamp) → Some st ≡ Some u → u ≡ st
 some_stamp st u e = cc
 
 module _ (m : Machine) (answer : Answer) (a now : ℕ) (x : Session) (st : Stamp) where
+  pub start-stamping : StartPhase m answer a now x st None Stamping
+  start-stamping = search arith
+
   pub start-seeking : (i : ℕ) → StartPhase m answer a now x st None (Seeking st i)
-  start-seeking i = record {
-    stamp = λ u h. some_stamp st u h;
-    hand = refl;
-    posts = refl;
-    left = λ ts e. refl;
-    unlocking = refl;
-    stamped = refl;
-    copied = refl;
-    given = λ f. refl;
-    filled = λ f h. absurd cc;
-    quiet = λ h removes. absurd cc;
-  }
+  start-seeking i = search arith
 
   pub start-taking : (i seen : ℕ) → StartPhase m answer a now x st None (Taking st i seen)
-  start-taking i seen = record {
-    stamp = λ u h. some_stamp st u h;
-    hand = refl;
-    posts = refl;
-    left = λ ts e. refl;
-    unlocking = refl;
-    stamped = refl;
-    copied = refl;
-    given = λ f. refl;
-    filled = λ f h. absurd cc;
-    quiet = λ h removes. absurd cc;
-  }
+  start-taking i seen = search arith
 
-  start-returning : StartPhase m answer a now x st None Returning
-  start-returning = record {
-    stamp = λ u h. absurd cc;
-    hand = refl;
-    posts = refl;
-    left = λ ts e. refl;
-    unlocking = refl;
-    stamped = refl;
-    copied = refl;
-    given = λ f. refl;
-    filled = λ f h. absurd cc;
-    quiet = λ h removes. absurd cc;
-  }
+  pub start-returning : StartPhase m answer a now x st None Returning
+  start-returning = search arith
 
   -- ---- the row is fixed
 
@@ -79,18 +50,7 @@ module _ (m : Machine) (answer : Answer) (a now : ℕ) (x : Session) (st : Stamp
     course = record { stamp = st; got = got; posts = [] }
 
     start-shooting : StartPhase m answer a now x st got (Shooting course Posting)
-    start-shooting = record {
-      stamp = λ u h. some_stamp st u h;
-      hand = refl;
-      posts = refl;
-      left = λ ts e. e;
-      unlocking = refl;
-      stamped = refl;
-      copied = refl;
-      given = λ f. refl;
-      filled = λ f h. refl;
-      quiet = λ h removes. absurd cc;
-    }
+    start-shooting = search arith
 
     start-quiet :
         (ph : Phase) (w : ℕ) → QuietPhase m answer a now x course ph w None [] → ((f : Frame) → got ≡ Some f → w ≡ 0) →

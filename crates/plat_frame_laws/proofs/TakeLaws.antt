@@ -1,9 +1,11 @@
 -- a frame that is taken from its pool keeps the invariant
-use Rattle.std.specs.Prelude.{◌≡◌, ◌≢◌, ◌⊎◌, ℕ, zero, suc, ◌+◌, ◌-◌, ◌^◌, ◌<◌, ◌==◌, ◌&&◌, nat_lt, not, if◌then◌else◌, Bool, true, false, List, [], ◌∷◌, length, Option, Some, None, is_none, IsTrue, sum_by, slice_index}
+use Rattle.std.specs.Prelude.{◌≡◌, ◌≢◌, ◌⊎◌, ℕ, zero, suc, ◌+◌, ◌-◌, ◌^◌, ◌<◌, ◌==◌, ◌&&◌, nat_lt, not, if◌then◌else◌, Bool, true, false}
+use Rattle.std.specs.Prelude.{List, [], ◌∷◌, length, Option, Some, None, is_none, IsTrue, sum_by, slice_index}
 use Rattle.std.proofs.Common.{refl, ap, sym, ◌∙◌, inl, inr, arith, subst}
 use Rattle.std.proofs.Math.Nat.{pow-le-pow_right}
 use Rattle.std.proofs.lemmas.Bool.{cases_eq, and_parts, eq-eqb, ne_eqb, true≢false}
 use Rattle.std.proofs.lemmas.Bool.Decides.{nat_tests}
+use Rattle.std.proofs.Math.Bool.{and-false, and-true}
 use Rattle.plat_base.specs.Verdicts.{Answer}
 use Rattle.plat_base.specs.Machine.{Machine}
 use Rattle.plat_base.specs.Pages.{numbers}
@@ -22,7 +24,8 @@ use Rattle.plat_base.proofs.CopiesLemmas.{same_frame-itself}
 use Rattle.plat_words.proofs.Pools.{IsLowest, lowest_free-is, lowest_free-below, has_bit-taken}
 use Rattle.plat_events.specs.Words.{has_bit, lowest_free, without_lowest}
 use Rattle.plat_events.specs.Places.{is_name, is_word}
-use Rattle.plat_events.specs.Sessions.{Stamp, Course, Phase, Taking, Session, decision_of, by_distance, tried, module_tried, phase_after, pool_found, frame_taken, with_frame_got, with_phase}
+use Rattle.plat_events.specs.Sessions.{Stamp, Course, Phase, Taking, Session, decision_of, by_distance, tried, module_tried, phase_after}
+use Rattle.plat_events.specs.Sessions.{pool_found, frame_taken, with_frame_got, with_phase}
 use Rattle.plat_events.specs.Standings.{stamp_of, saw_no_frame}
 use Rattle.plat_events.specs.Privates.{InSession, Private, actor_count}
 use Rattle.plat_events.specs.Events.{at}
@@ -36,7 +39,6 @@ use Rattle.plat_local_laws.specs.Phases.{TakingOk, PhaseOk, SessionOk}
 use Rattle.plat_local_laws.proofs.CourseLaws.{module_tried-below, may_some, cause-fault}
 use Rattle.plat_fine_laws.specs.Changes.{Changes}
 use Rattle.plat_fine_laws.proofs.WordLaws.{word_at-new, word_at-other}
-use Rattle.plat_fine_laws.proofs.TableFacts.{same_frame-same}
 use Rattle.plat_fine_laws.proofs.SessionFootprints.{taking-changes}
 use Rattle.plat_frame_laws.specs.Phased.{running}
 use Rattle.plat_frame_laws.specs.StartPhases.{StartPhase}
@@ -47,6 +49,7 @@ use Rattle.plat_frame_laws.proofs.StartGoesLaws.{start-kept, start-hand_before, 
 use Rattle.plat_frame_laws.proofs.SessionHereLaws.{here, session, reached-session}
 use Rattle.plat_frame_laws.proofs.StoreLaws.{pool-named, pool-apart, frame-node}
 use Rattle.plat_frame_laws.proofs.StillFrameLaws.{KeepsFrames-pool}
+use Rattle.plat_laws.proofs.SameLaws.{same_frame-true}
 
 -- ---- the module that is tried
 
@@ -258,11 +261,7 @@ module _ (m : Machine) (answer : Answer) (s : Fine) (a : ℕ) (x : Session) (st 
       ap (λ k. has_bit k (lowest_free seen)) word-new
       ∙ (has_bit-taken seen (lowest_free seen) some below lowest.within
       ∙ (ap (λ b. has_bit seen (lowest_free seen) && not b) (eq-eqb (lowest_free seen) (lowest_free seen) refl)
-      ∙ false_and (has_bit seen (lowest_free seen))))
-    where
-      false_and : (b : Bool) → (b && false) ≡ false
-      false_and true = refl
-      false_and false = refl
+      ∙ and-false (has_bit seen (lowest_free seen))))
 
   once-taken : uses_of m answer t f ≡ 1
   once-taken =
@@ -298,10 +297,6 @@ module _ (m : Machine) (answer : Answer) (s : Fine) (a : ℕ) (x : Session) (st 
     free-same : is_free m t g ≡ is_free m s g
     free-same = by (cases_eq g.module mo)
       where
-        true_and : (b : Bool) → (b && true) ≡ b
-        true_and true = refl
-        true_and false = refl
-
         by : (g.module ≡ mo) ⊎ (g.module ≢ mo) → is_free m t g ≡ is_free m s g
         by (inl e) =
             let number : (g.number == lowest_free seen) ≡ false =
@@ -313,7 +308,7 @@ module _ (m : Machine) (answer : Answer) (s : Fine) (a : ℕ) (x : Session) (st 
             ∙ (ap (λ k. has_bit k g.number) word-new
             ∙ (has_bit-taken seen g.number some below low
             ∙ (ap (λ b. has_bit seen g.number && not b) number
-            ∙ (true_and (has_bit seen g.number)
+            ∙ (and-true (has_bit seen g.number)
             ∙ (ap (λ k. has_bit k g.number) (sym found) ∙ ap (λ k. has_bit (word_at m s (word.Pool k)) g.number) (sym e))))))
         by (inr k) =
             ap (λ v. has_bit v g.number)
@@ -332,7 +327,7 @@ module _ (m : Machine) (answer : Answer) (s : Fine) (a : ℕ) (x : Session) (st 
   once g machine = by (same_frame g f) refl
     where
       by : (b : Bool) → same_frame g f ≡ b → uses_of m answer t g ≡ 1
-      by true e = subst (λ (y : Frame). uses_of m answer t y ≡ 1) (sym (same_frame-same g f e)) once-taken
+      by true e = subst (λ (y : Frame). uses_of m answer t y ≡ 1) (sym (same_frame-true g f e)) once-taken
       by false e = once-other g machine e
 
   -- the lowest frame of a pool is taken, where the pool is still as seen

@@ -19,12 +19,15 @@ use Rattle.plat_base.specs.declared.items.Item.{Item}
 use Rattle.plat_base.specs.declared.items.Item.TheVariants as item
 use Rattle.plat_base.specs.declared.statuses.Bad.{Bad}
 use Rattle.plat_base.specs.declared.statuses.Rule.TheVariants as rule
-use Rattle.plat_laws.proofs.AccessLaws.{both_here, kept_rule, not_removed, by_grant}
+use Rattle.plat_laws.proofs.AccessLaws.{not_removed, by_grant}
 use Rattle.plat_laws.proofs.ChangeLaws.{IsGoodChange, good_change}
 use Rattle.plat_laws.proofs.CopyLaws.{IsCurrent, IsAtCopy, at_copy, current-start}
 use Rattle.plat_laws.proofs.CopyChangeLaws.{current-item}
-use Rattle.plat_laws.proofs.ItemLaws.{dir_of-access, dir_of-change, dir_of-switch, dir_of-applied, flat_writes-append, flat_writes-change, flat_writes-switch, flat_writes-applied}
+use Rattle.plat_laws.proofs.ItemLaws.{dir_of-access, dir_of-change, dir_of-switch, dir_of-applied, flat_writes-append, flat_writes-change}
+use Rattle.plat_laws.proofs.ItemLaws.{flat_writes-switch, flat_writes-applied}
 use Rattle.plat_laws.proofs.TableLaws.{copy_on-empty}
+use Rattle.plat_base.proofs.RuleLemmas.{unless-none, bad_at-none}
+use Rattle.plat_laws.proofs.HistoryLaws.{good-items}
 
 -- no word of an empty page was written
 abbrev pub IsUnwritten : List Item → Type 0
@@ -72,7 +75,7 @@ unwritten-item m answer xs (item.Access a) h current k =
     let kept = not_removed m answer xs a h in
     unwritten-access m xs a current (at_copy m xs a current (by_grant m answer xs a h) kept.0 kept.1) k
 unwritten-item m answer xs (item.Change c) h current k =
-    unwritten-change m xs c (good_change m answer xs c (kept_rule (is_chained m answer xs c) rule.Chain h)) k
+    unwritten-change m xs c (good_change m answer xs c (unless-none (is_chained m answer xs c) rule.Chain h)) k
 unwritten-item m answer xs (item.Applied x) h current k = λ page w empty.
     flat_writes-applied xs (item.Applied x ∷ []) page w refl
     ∙ k page w (sym (ap (λ (d : Dir). is_empty d.state) (dir_of-applied xs (item.Applied x ∷ []) page refl)) ∙ empty)
@@ -89,7 +92,7 @@ settled-items :
     IsSettled m (xs ++ is)
 settled-items m answer xs n [] h k = rw append-nil k
 settled-items m answer xs n (i ∷ is) h k =
-    let both = both_here n (bad_rule m answer xs i) (bad_after m answer (xs ++ i ∷ []) (n + 1) is) h in
+    let both = bad_at-none n (bad_rule m answer xs i) (bad_after m answer (xs ++ i ∷ []) (n + 1) is) h in
     subst (IsSettled m) (append_assoc xs (i ∷ []) is)
     (settled-items m answer (xs ++ i ∷ []) (n + 1) is both.1
     (record {
@@ -97,19 +100,10 @@ settled-items m answer xs n (i ∷ is) h k =
       unwritten = unwritten-item m answer xs i both.0 k.current k.unwritten;
     }))
 
-left_none : (a b : Option Bad) → bad_or a b ≡ None → a ≡ None
-left_none None b h = refl
-left_none (Some x) b h = absurd cc
-
-good_items : (m : Machine) (answer : Answer) (items : List Item) (ends : List Ended) → Good m answer items ends →
-    bad_after m answer [] 0 items ≡ None
-unfolding first_bad
-good_items m answer items ends good = left_none (bad_after m answer [] 0 items) (bad_ends m items ends) good
-
 settled-good :
     (m : Machine) (answer : Answer) (items : List Item) (ends : List Ended) → Good m answer items ends → IsSettled m items
 settled-good m answer items ends good =
-    settled-items m answer [] 0 items (good_items m answer items ends good)
+    settled-items m answer [] 0 items (good-items m answer items ends good)
     (record { current = current-start m; unwritten = λ page w empty. refl })
 
 -- a word of an empty page has its initial value, and was never written

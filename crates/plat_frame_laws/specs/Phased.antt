@@ -13,7 +13,8 @@ use Rattle.plat_base.specs.declared.items.Translation.{Translation}
 use Rattle.plat_base.specs.declared.words.WordName.{WordName}
 use Rattle.plat_base.specs.declared.words.WordName.TheVariants as word
 use Rattle.plat_events.specs.Sessions.{Stamp, Phase, Session, with_phase}
-use Rattle.plat_events.specs.Standings.{stamp_of, is_stamped, is_quiet, words_filled, word_copied, hand_of, posts_of, removes_by, saw_no_frame}
+use Rattle.plat_events.specs.Standings.{stamp_of, is_stamped, is_quiet, words_filled, word_copied, hand_of, posts_of, removes_by}
+use Rattle.plat_events.specs.Standings.{saw_no_frame}
 use Rattle.plat_events.specs.Kept.{Running, session_on, is_kept}
 use Rattle.plat_events.specs.Views.{SessionView, session_viewed}
 use Rattle.plat_events.specs.Places.{entry_count}
@@ -47,8 +48,8 @@ pub record Continues (x y : SessionView) : Type 0 where
 abbrev pub running : (a now : ℕ) → Session → Running
 running a now x = record { actor = a; now = now; session = x }
 
--- what the session itself is to say of its next phase
-pub record PhaseGoes (m : Machine) (answer : Answer) (a now : ℕ) (x : Session) (next : Phase) : Type 0 where
+-- what a session owes of its next phase
+pub record PhaseFollows (m : Machine) (answer : Answer) (a now : ℕ) (x : Session) (next : Phase) : Type 0 where
   -- its stamp was read before, and it has not stored another one
   pub stamp : (st : Stamp) → stamp_of next ≡ Some st → stamp_of x.phase ≡ Some st
   pub unstored : is_stamped x.phase ≡ false
@@ -61,7 +62,10 @@ pub record PhaseGoes (m : Machine) (answer : Answer) (a now : ℕ) (x : Session)
   pub posts :
       IsTrue (is_quiet next) → IsTrue (removes_some (removes_by m answer a now (with_phase x next))) →
       length (posts_of (with_phase x next)) ≡ length (entries_of_page m x.fault.page)
-  -- and a processor and an entry of the page see it go on
+
+-- and what it is to say of it, where it makes no post: a processor and an entry of the page see it go on
+pub record PhaseGoes (m : Machine) (answer : Answer) (a now : ℕ) (x : Session) (next : Phase) : Type 0 where
+  pub follows : PhaseFollows m answer a now x next
   pub continues :
       (q e : ℕ) (t : Option Translation) → e < entry_count m → page_of m e ≡ x.fault.page →
       Continues (session_viewed m answer q e t (running a now x)) (session_viewed m answer q e t (running a now (with_phase x next)))

@@ -5,7 +5,8 @@ use Rattle.plat_base.specs.Machine.{Machine}
 use Rattle.plat_base.specs.declared.frames.Frame.{Frame}
 use Rattle.plat_events.specs.Shootdowns.{Target}
 use Rattle.plat_events.specs.Sessions.{Course, Phase, Session, decision_of, going}
-use Rattle.plat_events.specs.Standings.{stamp_of, course_of, is_quiet, is_stamped, unlocking_of, words_filled, word_copied, targets_left, frames_given, took_farther, saw_no_frame}
+use Rattle.plat_events.specs.Standings.{stamp_of, course_of, is_quiet, is_stamped, unlocking_of, words_filled, word_copied, targets_left}
+use Rattle.plat_events.specs.Standings.{frames_given, took_farther, saw_no_frame}
 
 -- phase ph of session x of actor a at tick now, of this course: so many words of the hand are filled, this word was read for a
 -- copy, and these frames are given back

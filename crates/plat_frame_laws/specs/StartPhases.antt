@@ -8,7 +8,8 @@ use Rattle.plat_base.specs.Messages.{removes_some}
 use Rattle.plat_base.specs.declared.frames.Frame.{Frame}
 use Rattle.plat_events.specs.Shootdowns.{Target}
 use Rattle.plat_events.specs.Sessions.{Stamp, Phase, Session, with_phase}
-use Rattle.plat_events.specs.Standings.{stamp_of, is_quiet, is_stamped, unlocking_of, words_filled, word_copied, targets_left, hand_of, posts_of, removes_by, has_given}
+use Rattle.plat_events.specs.Standings.{stamp_of, is_quiet, is_stamped, unlocking_of, words_filled, word_copied, targets_left, hand_of}
+use Rattle.plat_events.specs.Standings.{posts_of, removes_by, has_given}
 
 -- phase ph of session x of actor a at tick now, which has read this stamp and has got this frame, or none
 pub record StartPhase (m : Machine) (answer : Answer) (a now : ℕ) (x : Session) (st : Stamp) (got : Option Frame) (ph : Phase) : Type 0

@@ -14,7 +14,8 @@ use plat_base::{Config, Policy};
 /// every store of an initial value in the frame of a fill, every load of a word for a copy and its store, and every frame
 /// that is given back.
 pub fn any_policy_frames<P: Policy>(cfg: &Config, policy: &P)
-    ensures { (s : Fine) (a : ℕ) → Shows (machine cfg.now) (P.answer policy.now) s → a < actor_count (machine cfg.now)
+    ensures { (s : Fine) (a : ℕ) → Shows (machine cfg.now) (P.answer policy.now) s →
+        a < actor_count (machine cfg.now)
         → IsTrue (handles_frames (private_of (machine cfg.now) s a).place)
         → Shows (machine cfg.now) (P.answer policy.now) (event (machine cfg.now) (P.answer policy.now) s a) }
 {}

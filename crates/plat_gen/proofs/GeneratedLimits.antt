@@ -23,10 +23,6 @@ use Rattle.plat_gen.specs.Generated.{seed, same_page, guest, generated}
 
 -- ---- one guest more
 
-pub programs_seen-more : (gs : List GuestText) (g : GuestText) → programs_seen (gs ++ g ∷ []) ≡ programs_seen gs ++ program_seen g ∷ []
-programs_seen-more [] g = refl
-programs_seen-more (x ∷ gs) g = ap (λ ps. program_seen x ∷ ps) (programs_seen-more gs g)
-
 -- ---- limits
 
 guest-limits : (x : ℕ) → x < word_modulus → is_program (guest x) ≡ true

@@ -6,11 +6,11 @@ ghost use Rattle.plat_base.specs.Seen.{machine};
 ghost use Rattle.plat_gen.specs.Generated.{generated, guest, same_page, seed as seed_of};
 
 use crate::guests::{guest, seed};
-use plat_base::{Config, Entry, GuestText, List, OutOfMemory, Plan, PolicyKind};
+use plat_base::{Config, Entries, Entry, GuestText, List, OutOfMemory, Plan, PolicyKind};
 use std::alloc::Global;
 
 /// One entry for each page, at the virtual page of its own number.
-fn entries(alloc: Global) -> Result<List<Entry>, OutOfMemory>
+fn entries(alloc: Global) -> Result<Entries, OutOfMemory>
     ensures { IfOk result (λ entries. entries.items ≡ map same_page (numbers 33)) }
 {
     let mut entries = List::with_room(alloc, 33)?;
@@ -21,12 +21,13 @@ fn entries(alloc: Global) -> Result<List<Entry>, OutOfMemory>
             page: i,
         });
     }
-    Ok(entries)
+    Entries::new(alloc, entries)
 }
 
 /// The guests of the `n`-th machine, one for each node.
 fn guests(alloc: Global, n: u32) -> Result<List<GuestText>, OutOfMemory>
-    ensures { IfOk result (λ guests. programs_seen guests.items ≡ map (λ q. guest (seed_of n q)) (numbers 8)) }
+    ensures { IfOk result (λ guests. programs_seen guests.items
+        ≡ map (λ q. guest (seed_of n q)) (numbers 8)) }
 {
     let mut guests = List::with_room(alloc, 8)?;
     for q in 0..8 {

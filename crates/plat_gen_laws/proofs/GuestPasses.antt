@@ -1,5 +1,6 @@
 -- the turns of a generated guest: seven before its loop, ten for each of the 4,000 passes, and one to halt
-use Rattle.std.proofs.Common.{◌≡◌, subst, replicate, ℕ, zero, suc, ◌+◌, ◌*◌, ◌<◌, ◌≤◌, true, List, [], ◌∷◌, length, Some, None, refl, arith, get_or}
+use Rattle.std.proofs.Common.{◌≡◌, subst, replicate, ℕ, zero, suc, ◌+◌, ◌*◌, ◌<◌, ◌≤◌, true, List, [], ◌∷◌, length, Some, None, refl, arith}
+use Rattle.std.proofs.Common.{get_or}
 use Rattle.std.specs.Prelude.{is_some, bit_and, ◌/◌, ◌%◌, ◌^◌}
 use Rattle.std.proofs.lemmas.Bool.{lt-ltb}
 use Rattle.std.proofs.lemmas.Nat.{and_le_r}

@@ -3,7 +3,8 @@ use Rattle.std.proofs.Common.{◌≡◌, ℕ, suc, ◌+◌, List, Some, refl, su
 use Rattle.std.specs.Prelude.{slice_get}
 use Rattle.plat_base.specs.Machine.{Machine, Program}
 use Rattle.plat_base.specs.Pages.{program_of}
-use Rattle.plat_base.specs.GuestRun.{GuestState, GoesOn, HasHalted, guest_run, guest_start, executed, wanted, want_of, value_for, values_taken}
+use Rattle.plat_base.specs.GuestRun.{GuestState, GoesOn, HasHalted, guest_run, guest_start, executed, wanted, want_of, value_for}
+use Rattle.plat_base.specs.GuestRun.{values_taken}
 use Rattle.plat_base.specs.declared.guests.Instr.{Instr}
 use Rattle.plat_base.specs.declared.guests.Want.TheVariants as want
 use Rattle.plat_base.specs.declared.items.Kind.{Kind}

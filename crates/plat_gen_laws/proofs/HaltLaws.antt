@@ -1,5 +1,6 @@
 -- a guest that halts on enough values halts in that turn on any; and then so does its processor in the coarse run
-use Rattle.std.proofs.Common.{◌≡◌, ◌≢◌, ℕ, zero, suc, ◌+◌, ◌-◌, ◌<◌, ◌≤◌, true, List, ◌++◌, length, refl, sym, ap, ◌∙◌, ⊎_elim, arith, add-zero, add-suc, length-append}
+use Rattle.std.proofs.Common.{◌≡◌, ◌≢◌, ℕ, zero, suc, ◌+◌, ◌-◌, ◌<◌, ◌≤◌, true, List, ◌++◌, length, refl, sym, ap, ◌∙◌, ⊎_elim, arith}
+use Rattle.std.proofs.Common.{add-zero, add-suc, length-append}
 use Rattle.std.specs.Prelude.{◌&&◌, ◌==◌, nat_le, replicate}
 use Rattle.std.proofs.lemmas.Bool.{and_parts, eqb-true, cases_lt}
 use Rattle.std.proofs.lemmas.List.{length-replicate, get_or-replicate, ext_get_or}

@@ -1,5 +1,6 @@
 -- a guest's instructions: the forms of their lines, and the numbers of the labels that they name
-use Rattle.std.specs.Prelude.{ℕ, ◌==◌, nat_lt, nat_le, if◌then◌else◌, List, [], ◌∷◌, ◌++◌, position, Option, Some, None, Result, Ok, Err, bytes_eq, codes}
+use Rattle.std.specs.Prelude.{ℕ, ◌==◌, nat_lt, nat_le, if◌then◌else◌, List, [], ◌∷◌, ◌++◌, position, Option, Some, None, Result, Ok, Err}
+use Rattle.std.specs.Prelude.{bytes_eq, codes}
 use Rattle.plat_grammar.specs.Lines.{number_of}
 use Rattle.plat_base.specs.Labels.{is_label_name}
 use Rattle.plat_grammar.specs.Forms.{◌>>=◌, Row, refused, word_at, read_as, one, any_number, number, nothing, ◌·◌, made, maybe, chosen}

@@ -1,9 +1,13 @@
 -- the reading of a whole machine text over its rows: the machine, or the first fault
-use Rattle.std.specs.Prelude.{ℕ, zero, suc, ◌+◌, ◌==◌, nat_lt, nat_le, Bool, ◌||◌, if◌then◌else◌, List, [], ◌∷◌, ◌++◌, length, Result, Ok, Err, bytes_eq, codes}
+use Rattle.std.specs.Prelude.{ℕ, zero, suc, ◌+◌, ◌==◌, nat_lt, nat_le, Bool, ◌||◌, if◌then◌else◌, List, [], ◌∷◌, ◌++◌, length, Result, Ok}
+use Rattle.std.specs.Prelude.{Err, bytes_eq, codes}
 use Rattle.plat_grammar.specs.Lines.{number_of}
-use Rattle.plat_grammar.specs.Forms.{◌>>=◌, Row, Rest, Stop, rows_of, refused, missing, row_length, row_at, word_at, first_word, read_as, one, exactly, number_in, any_number, number, below, nothing, ◌·◌, made, choice, listed, once, line_at, all_with, over}
+use Rattle.plat_grammar.specs.Forms.{◌>>=◌, Row, Rest, Stop, rows_of, refused, missing, row_length, row_at, word_at, first_word, read_as}
+use Rattle.plat_grammar.specs.Forms.{one, exactly, number_in, any_number, number, below, nothing, ◌·◌, made, choice, listed, once, line_at}
+use Rattle.plat_grammar.specs.Forms.{all_with, over}
 use Rattle.plat_grammar.specs.Drafts.{Draft, name_of, instruction_line, code_from}
-use Rattle.plat_base.specs.Machine.{Machine, Program, Turns, robin, random, listed as turns_listed, is_page_size, same_nodes, same_place, same_word, same_name}
+use Rattle.plat_base.specs.Machine.{Machine, Program, Turns, robin, random, listed as turns_listed, is_page_size, same_nodes, same_place}
+use Rattle.plat_base.specs.Machine.{same_word, same_name}
 use Rattle.plat_base.specs.Canon.{is_short, most_bytes}
 use Rattle.plat_base.specs.declared.faults.Refused.{Refused}
 use Rattle.plat_base.specs.declared.faults.Why.{Why}

@@ -1,5 +1,6 @@
 -- rows, which are the lines that have words, and the forms of what stands in them
-use Rattle.std.specs.Prelude.{◌≡◌, ℕ, ◌+◌, ◌==◌, nat_lt, nat_le, Bool, ◌||◌, if◌then◌else◌, List, [], ◌∷◌, ◌++◌, length, position, Option, Some, None, Result, Ok, Err, bytes_eq}
+use Rattle.std.specs.Prelude.{◌≡◌, ℕ, ◌+◌, ◌==◌, nat_lt, nat_le, Bool, ◌||◌, if◌then◌else◌, List, [], ◌∷◌, ◌++◌, length, position, Option}
+use Rattle.std.specs.Prelude.{Some, None, Result, Ok, Err, bytes_eq}
 use Rattle.std.specs.List.{list_any}
 use Rattle.plat_grammar.specs.Lines.{LineText, Word, lines_of, uncommented, words_of, number_of}
 use Rattle.plat_base.specs.Machine.{is_within}
@@ -223,7 +224,8 @@ abbrev pub line_at : {A : Type 0} → List ℕ → (Row → Result A Refused) �
 line_at word read rest = opened word rest >>= λ r. read r.0 >>= λ x. Ok (x, r.1)
 
 -- the lines with this first word, as many as come, no two of them the same; what stands before them was seen
-abbrev pub repeated : {A : Type 0} → List ℕ → (A → A → Bool) → (Row → Result A Refused) → Stop → ℕ → List A → List Row → Result (List A × Rest) Refused
+abbrev pub repeated : {A : Type 0} → List ℕ → (A → A → Bool) → (Row → Result A Refused) → Stop → ℕ → List A → List Row →
+    Result (List A × Rest) Refused
 repeated word same read stop given seen [] = Err (missing stop)
 repeated word same read stop given seen (row ∷ rows) = word_at row >>= λ w.
     (if bytes_eq w.0.bytes word

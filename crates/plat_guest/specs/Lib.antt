@@ -1,3 +1,2 @@
-pub mod Entries
 pub mod GuestSeen
-pub mod Small
+pub mod Tried

@@ -5,7 +5,6 @@ ghost use Rattle.plat_base.specs.Seen.{machine};
 ghost use Rattle.plat_base.specs.GuestRun.{register, address, put, passed, gone, target, executed, access_or_trap};
 ghost use Rattle.plat_guest.specs.GuestSeen.{new_guest, wanted_by, stepped, in_state};
 
-use crate::entries::entry_at;
 use crate::programs;
 use plat_base::{Config, GuestText, Instr, Kind, Want};
 use std::marker::Model;
@@ -24,9 +23,17 @@ impl Model for Guest {
 
     ghost Value = { GuestSeen };
 
-    ghost view = { λ it. record { node = it.node; state = record { registers = it.registers; at = it.at; space = it.space } } };
+    ghost view = { λ it. record {
+      node = it.node;
+      state = record { registers = it.registers; at = it.at; space = it.space };
+    } };
 
-    ghost inverse = { λ g. record { node = g.node; registers = g.state.registers; at = g.state.at; space = g.state.space } };
+    ghost inverse = { λ g. record {
+      node = g.node;
+      registers = g.state.registers;
+      at = g.state.at;
+      space = g.state.space;
+    } };
 }
 
 impl Guest {
@@ -134,7 +141,7 @@ impl Guest {
     fn access(&self, cfg: &Config, kind: Kind, addr: u32, operand: u32) -> Want
         ensures { result ≡ access_or_trap (machine cfg.now) kind self.now.state.space addr operand }
     {
-        match entry_at(cfg, self.space, addr / cfg.words) {
+        match cfg.entry_at(self.space, addr / cfg.words) {
             Some(_) => Want::Access {
                 kind,
                 space: self.space,

@@ -1,11 +1,9 @@
 //! Guest steps: what a guest wants of its next turn, and its state after its next instruction. No call takes memory.
 #![tactic(auto)]
 
-mod entries;
 mod guests;
 mod programs;
 #[cfg(test)]
 mod tests;
 
-pub use entries::entry_at;
 pub use guests::Guest;

@@ -1,27 +1,18 @@
 //! Runs of small guests, whose values were worked out by hand.
-ghost use Rattle.std.specs.Prelude.{◌≡◌, ◌∷◌, [], IfOk, IsTrue};
+ghost use Rattle.std.specs.Prelude.{◌≡◌, IfOk, IsTrue};
 ghost use Rattle.plat_base.specs.Machine.{is_machine};
 ghost use Rattle.plat_base.specs.Canon.{is_short};
 ghost use Rattle.plat_base.specs.Labels.{is_label_name};
 ghost use Rattle.plat_base.specs.Seen.{machine};
-ghost use Rattle.plat_guest.specs.Small.{small, three_labels};
+ghost use Rattle.plat_guest.specs.Tried.{three_labels, tried};
 
-use crate::{Guest, entry_at};
+use crate::Guest;
 use plat_base::{
-    Config, Entry, GuestText, Instr, Kind, Label, List, Name, OutOfMemory, Plan, PolicyKind, Want,
+    Config, Entry, GuestText, Instr, Kind, Label, List, Name, OutOfMemory, PolicyKind, Want,
 };
+use plat_samples::{Sizes, listed, one_guest, small};
 use std::alloc::{AllocError, Global};
 use std::test::Fail;
-
-fn listed<T: Copy>(alloc: Global, items: &[T]) -> Result<List<T>, OutOfMemory>
-    ensures { IfOk result (λ list. list.items ≡ items.now) }
-{
-    let mut list = List::with_room(alloc, items.len())?;
-    for item in items {
-        list.push(*item);
-    }
-    Ok(list)
-}
 
 fn label(name: &[u8], at: u32) -> Label
     requires { IsTrue (is_label_name name.now) }
@@ -43,15 +34,18 @@ fn labelled(alloc: Global, a: u32, b: u32, c: u32) -> Result<List<Label>, OutOfM
     Ok(labels)
 }
 
-fn entry(space: u32) -> Entry
-    ensures { result ≡ record { space = space; vpage = 0; page = 0 } }
-{
+const ENTRIES: [Entry; 2] = [
     Entry {
-        space,
+        space: 0,
         vpage: 0,
         page: 0,
-    }
-}
+    },
+    Entry {
+        space: 1,
+        vpage: 0,
+        page: 0,
+    },
+];
 
 // A machine with one node, whose guest's labels a, b and c stand at these positions.
 fn small_config(
@@ -61,29 +55,23 @@ fn small_config(
     b: u32,
     c: u32,
 ) -> Result<Config, OutOfMemory>
-    requires limits { IsTrue (is_machine (small code.now a b c)) }
-    requires short { IsTrue (is_short (small code.now a b c)) }
-    ensures { IfOk result (λ cfg. machine cfg ≡ small code.now a b c) }
+    requires limits { IsTrue (is_machine (tried code.now a b c)) }
+    requires short { IsTrue (is_short (tried code.now a b c)) }
+    ensures { IfOk result (λ cfg. machine cfg ≡ tried code.now a b c) }
 {
-    let mut guests = List::with_room(alloc, 1)?;
-    guests.push(GuestText {
+    let sizes = Sizes {
+        nodes: 1,
+        frames: 1,
+        pages: 1,
+        budget: 100,
+    };
+    let text = GuestText {
         space: 0,
         code: listed(alloc, code)?,
         labels: labelled(alloc, a, b, c)?,
-    });
-    Ok(Config {
-        nodes: 1,
-        frames: 1,
-        words: 4,
-        pages: 1,
-        policy: PolicyKind::Place,
-        budget: 100,
-        schedule: Plan::Robin,
-        distances: List::new(alloc),
-        entries: listed(alloc, &[entry(0), entry(1)])?,
-        inits: List::new(alloc),
-        guests,
-    })
+    };
+    let guests = one_guest(alloc, text)?;
+    small(alloc, sizes, PolicyKind::Place, &ENTRIES, &[], guests)
 }
 
 // Every instruction once at least; each jump that is taken goes over a halt.
@@ -235,8 +223,8 @@ fn traps_without_an_entry(rt: HostRuntime) -> Result<(), Fail> {
     let (prints, want) = run(alloc, &cfg)?;
     assert_eq!(rt; prints.len(), 1);
     assert_eq!(rt; want, Want::Trap);
-    assert_eq!(rt; entry_at(&cfg, 1, 0), Some(1));
-    assert_eq!(rt; entry_at(&cfg, 1, 1), None);
+    assert_eq!(rt; cfg.entry_at(1, 0), Some(1));
+    assert_eq!(rt; cfg.entry_at(1, 1), None);
     Ok(())
 }
 

@@ -1,7 +1,9 @@
 -- a session of the machine stays one, whatever number of the machine its operation finds
-use Rattle.std.proofs.Common.{◌≡◌, ◌≢◌, ℕ, ◌+◌, ◌^◌, ◌<◌, ◌≤◌, Bool, true, false, if◌then◌else◌, List, [], ◌∷◌, length, Option, Some, None, refl, arith}
+use Rattle.std.proofs.Common.{◌≡◌, ◌≢◌, ℕ, ◌+◌, ◌^◌, ◌<◌, ◌≤◌, Bool, true, false, if◌then◌else◌, List, [], ◌∷◌, length, Option, Some, None}
+use Rattle.std.proofs.Common.{refl, arith}
 use Rattle.std.specs.Prelude.{IsTrue, nat_lt, ◌==◌, ◌&&◌, is_none, slice_index}
 use Rattle.std.proofs.lemmas.Bool.Decides.{nat_tests}
+use Rattle.std.proofs.lemmas.Bool.{ltb-true}
 use Rattle.plat_base.specs.Verdicts.{Answer}
 use Rattle.plat_base.specs.Alike.{same_verdict}
 use Rattle.plat_base.specs.Frames.{frame_at}
@@ -21,14 +23,14 @@ use Rattle.plat_events.specs.Words.{last_read, seq_read, lowest_free}
 use Rattle.plat_events.specs.Places.{most_changes}
 use Rattle.plat_events.specs.Events.{is_followed}
 use Rattle.plat_events.specs.Shootdowns.{Shoot, Makes, Polls, Done, shoot_from, shot_after}
-use Rattle.plat_events.specs.Sessions.{Stamp, Course, Phase, Stamping, Seeking, Taking, Returning, Shooting, Filling, Reading, Copying, Giving, Storing, Granting, Unlocking, Session, decision_of, by_distance, tried, going, give_from, fill_from, copy_from, shot_over, with_posts, with_shoot, start_course, with_frame_got, seek_from, pool_found, frame_taken, session_next, phase_after}
+use Rattle.plat_events.specs.Sessions.{Stamp, Course, Phase, Stamping, Seeking, Taking, Returning, Shooting, Filling, Reading, Copying}
+use Rattle.plat_events.specs.Sessions.{Giving, Storing, Granting, Unlocking, Session, decision_of, by_distance, tried, going, give_from}
+use Rattle.plat_events.specs.Sessions.{fill_from, copy_from, shot_over, with_posts, with_shoot, start_course, with_frame_got, seek_from}
+use Rattle.plat_events.specs.Sessions.{pool_found, frame_taken, session_next, phase_after}
 use Rattle.plat_handler.specs.Phases.{answer_of}
 use Rattle.plat_handler.specs.Fits.{SessionFits, CourseFits, SeekFits, PhaseFits, may_begin}
 use Rattle.plat_handler.proofs.ModuleLemmas.{by_distance-within, length-by_distance}
 use Rattle.plat_handler.proofs.FaultLemmas.{fault-actor, fault-most, facts-decide, frozen-some}
-
-below : (a b : ℕ) → nat_lt a b ≡ true → a < b
-below a b h = grind (arith, nat_tests)
 
 -- ---- a page that is copied
 
@@ -130,18 +132,18 @@ module _ (m : Machine) (a now : ℕ) (s : Session) where
   give_from-fits : (c : Course) (k : ℕ) → CourseFits m a now s c → PhaseFits m a now s (give_from m (answer_of m) a now s c k)
   give_from-fits c k h =
       let n : ℕ = length (going s.dir (decision_of m (answer_of m) a now s c)) in
-      either (nat_lt k n) (Giving c k) (Storing c) (λ e. (h, below k n e)) (λ e. h)
+      either (nat_lt k n) (Giving c k) (Storing c) (λ e. (h, ltb-true k n e)) (λ e. h)
 
   fill_from-fits : (c : Course) (w : ℕ) → CourseFits m a now s c → PhaseFits m a now s (fill_from m (answer_of m) a now s c w)
   fill_from-fits c w h =
-      either (nat_lt w m.words) (Filling c w) (give_from m (answer_of m) a now s c 0) (λ e. (h, below w m.words e))
+      either (nat_lt w m.words) (Filling c w) (give_from m (answer_of m) a now s c 0) (λ e. (h, ltb-true w m.words e))
       (λ e. give_from-fits c 0 h)
 
   copy_from-fits :
       (c : Course) (w : ℕ) → CourseFits m a now s c → is_empty s.dir.state ≡ false → a < m.nodes →
       PhaseFits m a now s (copy_from m (answer_of m) a now s c w)
   copy_from-fits c w h e l =
-      either (nat_lt w m.words) (Reading c w) (give_from m (answer_of m) a now s c 0) (λ t. (h, below w m.words t, e, l))
+      either (nat_lt w m.words) (Reading c w) (give_from m (answer_of m) a now s c 0) (λ t. (h, ltb-true w m.words t, e, l))
       (λ t. give_from-fits c 0 h)
 
   shot_over-fits :
@@ -190,7 +192,7 @@ module _ (m : Machine) (a now : ℕ) (s : Session) where
         let n : ℕ = length (tried m (answer_of m) a now s st) in
         either (nat_lt i n) (Seeking st i)
         (if is_empty s.dir.state then Returning else with_frame_got m (answer_of m) a now s st None)
-        (λ e. (b, below i n e, k))
+        (λ e. (b, ltb-true i n e, k))
         (λ e. either (is_empty s.dir.state) Returning (with_frame_got m (answer_of m) a now s st None) (λ t. tt)
         (λ t. with_frame_got-fits st None (none-fits m (answer_of m) s.dir st.last now a s.fault.cause t b) k))
 

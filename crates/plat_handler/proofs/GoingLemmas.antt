@@ -1,11 +1,13 @@
 -- the frames that a change gives back, as a loop over the modules finds them
-use Rattle.std.proofs.Common.{◌≡◌, ℕ, zero, suc, ◌+◌, ◌-◌, ◌<◌, ◌≤◌, Bool, true, false, List, [], ◌∷◌, filter, Some, None, refl, ap, sym, ◌∙◌, arith}
+use Rattle.std.proofs.Common.{◌≡◌, ℕ, zero, suc, ◌+◌, ◌-◌, ◌<◌, ◌≤◌, Bool, true, false, List, [], ◌∷◌, filter, Some, None, refl, ap, sym}
+use Rattle.std.proofs.Common.{◌∙◌, arith}
 use Rattle.std.specs.Prelude.{IsTrue, ◌==◌, slice_get}
 use Rattle.std.specs.List.{list_any}
 use Rattle.std.proofs.lemmas.Bool.Decides.{nat_tests}
 use Rattle.plat_base.specs.Copies.{copy_on, same_frame, AreCopies, are_copies_from}
 use Rattle.plat_base.specs.declared.frames.Frame.{Frame}
 use Rattle.plat_policy.proofs.Walks.{copies_from, copies_from-start, copies_from-next, copies_from-copy, copies_from-end}
+use Rattle.plat_base.proofs.CopiesLemmas.{copy_on-module}
 
 -- ---- whether a frame is a copy
 
@@ -55,9 +57,5 @@ module _ (q : Frame → Bool) (copies : List Frame) (k : ℕ) where
 
 pub left_from-start : (q : Frame → Bool) (copies : List Frame) → AreCopies copies → left_from q copies 0 ≡ filter q copies
 left_from-start q copies r = ap (λ (fs : List Frame). filter q fs) (copies_from-start copies r)
-
-pub copy_on-module : (k : ℕ) (f : Frame) (fs : List Frame) → copy_on k fs ≡ Some f → f.module ≡ k
-copy_on-module k f [] e = absurd cc
-copy_on-module k f (x ∷ xs) e = grind (arith, nat_tests, copy_on-module k f xs)
 
 pub ruleset copy_modules = (copy_on-module)

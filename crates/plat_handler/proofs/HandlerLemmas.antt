@@ -4,19 +4,22 @@ use Rattle.std.specs.Prelude.{IsTrue, ◌==◌}
 use Rattle.plat_base.specs.Machine.{Machine}
 use Rattle.plat_base.specs.declared.items.Removed.{Removed}
 use Rattle.plat_base.specs.declared.items.Removed.TheVariants as removed
+use Rattle.plat_base.specs.declared.words.Op.{Op}
 use Rattle.plat_events.specs.Events.{is_followed}
 use Rattle.plat_events.specs.Shootdowns.{Shoot, Makes, Polls, Done, shot_next, own_post}
 use Rattle.plat_events.specs.Sessions as events
 use Rattle.plat_events.specs.Sessions.{Phase, Returning, Session, session_next, change_made}
 use Rattle.plat_shoot.specs.declared.needs.Own.TheVariants as own
-use Rattle.plat_shoot.specs.ShootSeen.{ShootSeen, ShootsOn, need_of, is_word_needed, own_by, own_after}
+use Rattle.plat_shoot.specs.ShootSeen.{ShootSeen, ShootsOn, need_of, need_by, is_word_needed, own_by, own_after}
 use Rattle.plat_handler.specs.Stages as stages
 use Rattle.plat_handler.specs.Stages.{Runs, stage_after}
-use Rattle.plat_handler.specs.Phases.{answer_of, session_seen, course_seen, phase_seen, decided, shooting_by, shooting_seen, GoesOn, IsUnderWay}
+use Rattle.plat_handler.specs.Phases.{answer_of, session_seen, course_seen, phase_seen, decided, shooting_by, shooting_seen, GoesOn}
+use Rattle.plat_handler.specs.Phases.{IsUnderWay}
 use Rattle.plat_handler.specs.Fits.{StageFits, StageShoots}
 use Rattle.plat_handler.specs.Decided.{Decides}
 use Rattle.plat_handler.specs.Settled.{IsOf, IsShootOf, own_of_shot}
 use Rattle.plat_handler.specs.HandlerSeen.{HandlerSeen, HandlesOn, ask_of, is_word_asked, own_of}
+use Rattle.plat_handler.specs.declared.asks.Ask.{Ask}
 use Rattle.plat_handler.specs.declared.asks.Ask.TheVariants as ask
 use Rattle.plat_base.specs.declared.items.Change.{Change}
 use Rattle.std.proofs.lemmas.Bool.Decides.{nat_tests}
@@ -146,3 +149,26 @@ pub ask-thawed :
     ≡ ask_of m lock.actor lock.tick (stages.Changed (session_seen lock (events.Unlocking (course_seen posts c))) (course_seen posts c))
 ask-thawed m lock posts c change e d =
     let daemon : (lock.actor == m.nodes) ≡ true = grind (arith, nat_tests) in rw daemon (ap ask.Thawed e)
+
+-- ---- whether a word is asked in a shootdown
+
+asks-by :
+    (m : Machine) (lock : Lock) (c : RustCourse) (s : ShootSeen) (shoot : Shoot) → GoesOn shoot →
+    is_word_needed (need_by m s shoot) ≡ is_word_asked (ask_of m lock.actor lock.tick (shooting_by lock c shoot))
+asks-by m lock c s (Makes posts shot) h = refl
+asks-by m lock c s (Polls posts k) h = refl
+asks-by m lock c s (Done posts) h = absurd h
+
+pub asks-shooting :
+    (m : Machine) (lock : Lock) (c : RustCourse) (s : ShootSeen) → GoesOn s.shoot →
+    is_word_needed (need_of m s) ≡ is_word_asked (ask_of m lock.actor lock.tick (shooting_by lock c s.shoot))
+asks-shooting m lock c s h = asks-by m lock c s s.shoot h
+
+-- what asks for a word is one
+pub is_word_asked-word : (a : Ask) → is_word_asked a ≡ true → (at : ℕ) × (op : Op) × (ask.Word at op ≡ a)
+is_word_asked-word (ask.Word at op) h = (at, op, refl)
+is_word_asked-word ask.Poll h = absurd cc
+is_word_asked-word (ask.Granted change) h = absurd cc
+is_word_asked-word (ask.Thawed change) h = absurd cc
+is_word_asked-word ask.NotFrozen h = absurd cc
+is_word_asked-word ask.NoFrames h = absurd cc

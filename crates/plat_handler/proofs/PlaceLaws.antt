@@ -6,9 +6,11 @@ use Rattle.plat_base.specs.Verdicts.{Answer}
 use Rattle.plat_events.specs.Words.{is_locked}
 use Rattle.plat_events.specs.Events.{named_next, lock_place_after, session_moved, shoot_place}
 use Rattle.plat_events.specs.Shootdowns.{Shoot, Makes, Polls, Done, shot_after}
-use Rattle.plat_events.specs.Sessions.{Fault, Phase, Stamping, Seeking, Taking, Returning, Shooting, Filling, Reading, Copying, Giving, Storing, Granting, Unlocking, Session}
+use Rattle.plat_events.specs.Sessions.{Fault, Phase, Stamping, Seeking, Taking, Returning, Shooting, Filling, Reading, Copying, Giving}
+use Rattle.plat_events.specs.Sessions.{Storing, Granting, Unlocking, Session}
 use Rattle.plat_events.specs.Privates.{Private, Polling, Relock, Locking, InSession}
-use Rattle.plat_handler.specs.Stages.{Locks, Relocks, Runs, stage_next, stage_locked, stage_shot, stage_run, session_begun, session_after, place_in}
+use Rattle.plat_handler.specs.Stages.{Locks, Relocks, Runs, stage_next, stage_locked, stage_shot, stage_run, session_begun, session_after}
+use Rattle.plat_handler.specs.Stages.{place_in}
 
 -- ---- the operation
 

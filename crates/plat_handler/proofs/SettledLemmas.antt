@@ -6,10 +6,12 @@ use Rattle.plat_base.specs.Pages.{entries_of_page}
 use Rattle.plat_events.specs.Events.{is_followed}
 use Rattle.plat_events.specs.Shootdowns.{Shot, Posting, Asking, Shoot, Makes, Polls, Done, targets, shoot_from, shot_next, shot_after}
 use Rattle.plat_events.specs.Sessions.{Phase, Returning, Shooting, Session, with_phase, with_shoot, shot_over, session_next, phase_after}
+use Rattle.plat_shoot.specs.declared.needs.Need.{Need}
 use Rattle.plat_shoot.specs.declared.needs.Need.TheVariants as need
-use Rattle.plat_shoot.specs.ShootSeen.{ShootSeen, ShootsOn, need_of, need_by, is_word_needed, shoot_after}
+use Rattle.plat_shoot.specs.ShootSeen.{ShootSeen, ShootsOn, need_of, need_by, is_finished, is_word_needed, shoot_after}
 use Rattle.plat_handler.specs.Stages.{Runs, stage_shot, stage_after}
-use Rattle.plat_handler.specs.Phases.{answer_of, fault_seen, session_seen, course_seen, phase_seen, then_seen, decided, posts_by, posts_in, shooting_by, GoesOn}
+use Rattle.plat_handler.specs.Phases.{answer_of, fault_seen, session_seen, course_seen, phase_seen, then_seen, decided, posts_by, posts_in}
+use Rattle.plat_handler.specs.Phases.{shooting_by, GoesOn}
 use Rattle.plat_handler.specs.Fits.{SessionFits, StageShoots}
 use Rattle.plat_handler.specs.Decided.{RemovesSome}
 use Rattle.plat_handler.specs.Settled.{stage_with, IsOf, EntersOn, ThenShoots}
@@ -21,6 +23,14 @@ use Rattle.plat_handler.specs.declared.phases.Then.{Then}
 use Rattle.plat_handler.specs.declared.phases.Then.TheVariants as then_
 use Rattle.plat_handler.proofs.FaultLemmas.{fault-page, fault-most}
 use Rattle.plat_handler.proofs.StandingLemmas.{EarlyNone, early-after, late-over, shoot_fits-early}
+
+pub finished : (n : Need) → is_finished n ≡ true → n ≡ need.Finished
+finished (need.Word at op) h = absurd cc
+finished need.Poll h = absurd cc
+finished need.Finished h = refl
+
+pub not_finished : (n : Need) → is_finished n ≡ false → n ≢ need.Finished
+not_finished n h e = let k = sym h ∙ ap is_finished e in cc
 
 module _ (m : Machine) (lock : Lock) (c : RustCourse) where
   abbrev pub running : Shoot → ShootSeen

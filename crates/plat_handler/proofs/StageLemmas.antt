@@ -10,8 +10,10 @@ use Rattle.plat_events.specs.Words.{is_locked, dir_read}
 use Rattle.plat_events.specs.Places.{is_dir_word}
 use Rattle.plat_events.specs.Events.{is_followed}
 use Rattle.plat_events.specs.Shootdowns.{Shoot, Makes, Polls, Done, shot_after}
-use Rattle.plat_events.specs.Sessions.{Fault, Phase, Stamping, Seeking, Taking, Returning, Shooting, Filling, Reading, Copying, Giving, Storing, Granting, Unlocking, Session, session_next}
-use Rattle.plat_handler.specs.Stages.{Stage, Locks, Relocks, Runs, Rewaits, Returned, Changed, stage_next, session_begun, stage_locked, session_after, stage_shot, stage_run, stage_after, stage_polled}
+use Rattle.plat_events.specs.Sessions.{Fault, Phase, Stamping, Seeking, Taking, Returning, Shooting, Filling, Reading, Copying, Giving}
+use Rattle.plat_events.specs.Sessions.{Storing, Granting, Unlocking, Session, session_next}
+use Rattle.plat_handler.specs.Stages.{Stage, Locks, Relocks, Runs, Rewaits, Returned, Changed, stage_next, session_begun, stage_locked}
+use Rattle.plat_handler.specs.Stages.{session_after, stage_shot, stage_run, stage_after, stage_polled}
 use Rattle.plat_handler.specs.Phases.{answer_of}
 use Rattle.plat_handler.specs.Fits.{SessionFits, PhaseFits, StageFits, may_begin, is_fault, is_caused}
 use Rattle.plat_handler.proofs.FaultLemmas.{fault-caused}

@@ -8,7 +8,10 @@ use Rattle.plat_base.specs.declared.items.Action.{Action}
 use Rattle.plat_base.specs.declared.items.Action.TheVariants as action
 use Rattle.plat_events.specs.Words.{last_read, seq_read}
 use Rattle.plat_events.specs.Shootdowns.{Shoot, Makes, Polls, Done, shoot_from, shot_after}
-use Rattle.plat_events.specs.Sessions.{Stamp, Course, Phase, Stamping, Seeking, Taking, Returning, Shooting, Filling, Reading, Copying, Giving, Storing, Granting, Unlocking, Session, decision_of, tried, going, give_from, fill_from, copy_from, shot_over, with_posts, with_shoot, start_course, with_frame_got, seek_from, pool_found, frame_taken, phase_after}
+use Rattle.plat_events.specs.Sessions.{Stamp, Course, Phase, Stamping, Seeking, Taking, Returning, Shooting, Filling, Reading, Copying}
+use Rattle.plat_events.specs.Sessions.{Giving, Storing, Granting, Unlocking, Session, decision_of, tried, going, give_from, fill_from}
+use Rattle.plat_events.specs.Sessions.{copy_from, shot_over, with_posts, with_shoot, start_course, with_frame_got, seek_from, pool_found}
+use Rattle.plat_events.specs.Sessions.{frame_taken, phase_after}
 use Rattle.plat_shoot.specs.ShootSeen.{ShootSeen}
 use Rattle.plat_handler.specs.Phases.{answer_of, fault_seen, session_seen, course_seen, phase_seen, posts_in, PostsSuit}
 use Rattle.plat_handler.specs.Fits.{SessionFits, CourseFits, PhaseFits, ShootFits, may_begin}

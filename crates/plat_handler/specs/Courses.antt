@@ -8,7 +8,9 @@ use Rattle.plat_base.specs.declared.words.Op.{Op}
 use Rattle.plat_base.specs.declared.words.WordName.{WordName}
 use Rattle.plat_words.specs.declared.stamp_words.StampWord.{StampWord}
 use Rattle.plat_events.specs.Sessions as events
-use Rattle.plat_events.specs.Sessions.{Session, Returning, give_from, fill_from, copy_from, shot_over, start_course, seek_from, pool_found, with_frame_got, frame_taken, module_tried, tried, phase_after, session_next, change_made, translation_made}
+use Rattle.plat_events.specs.Sessions.{Session, Returning, give_from, fill_from, copy_from, shot_over, start_course, seek_from, pool_found}
+use Rattle.plat_events.specs.Sessions.{with_frame_got, frame_taken, module_tried, tried, phase_after, session_next, change_made}
+use Rattle.plat_events.specs.Sessions.{translation_made}
 use Rattle.plat_shoot.specs.ShootSeen.{ShootSeen}
 use Rattle.plat_handler.specs.Stages.{Stage, stage_after}
 use Rattle.plat_handler.specs.Phases.{answer_of, session_seen, stamp_seen, course_seen, phase_seen, decided}

@@ -1,5 +1,6 @@
 -- when a handler is one of a machine: what it is for, and where it stands
-use Rattle.std.specs.Prelude.{◌≡◌, ℕ, ◌^◌, ◌<◌, ◌≤◌, ◌==◌, nat_lt, ◌&&◌, Bool, true, false, List, length, Option, Some, None, is_none, IsTrue}
+use Rattle.std.specs.Prelude.{◌≡◌, ℕ, ◌^◌, ◌<◌, ◌≤◌, ◌==◌, nat_lt, ◌&&◌, Bool, true, false, List, length, Option, Some, None, is_none}
+use Rattle.std.specs.Prelude.{IsTrue}
 use Rattle.plat_base.specs.Machine.{Machine}
 use Rattle.plat_base.specs.Pages.{page_of}
 use Rattle.plat_base.specs.Decide.{is_dir, is_empty, fits_cause}
@@ -8,7 +9,8 @@ use Rattle.plat_base.specs.declared.items.Cause.{Cause}
 use Rattle.plat_base.specs.declared.items.Cause.TheVariants as cause
 use Rattle.plat_events.specs.Places.{most_changes}
 use Rattle.plat_events.specs.Shootdowns.{Shot, Posting, PostingOn, Asking, Interrupting, Watching, AskingAgain, Shoot, Makes, Polls, Done}
-use Rattle.plat_events.specs.Sessions.{Fault, Stamp, Course, Phase, Stamping, Seeking, Taking, Returning, Shooting, Filling, Reading, Copying, Giving, Storing, Granting, Unlocking, Session, decision_of, tried, going}
+use Rattle.plat_events.specs.Sessions.{Fault, Stamp, Course, Phase, Stamping, Seeking, Taking, Returning, Shooting, Filling, Reading}
+use Rattle.plat_events.specs.Sessions.{Copying, Giving, Storing, Granting, Unlocking, Session, decision_of, tried, going}
 use Rattle.plat_shoot.specs.ShootSeen.{ShootSeen, ShootsOn}
 use Rattle.plat_handler.specs.Stages.{Stage, Locks, Relocks, Runs, Rewaits, Returned, Changed}
 use Rattle.plat_handler.specs.Phases.{answer_of}

@@ -7,12 +7,14 @@ use Rattle.plat_base.specs.declared.words.Op.{Op}
 use Rattle.plat_base.specs.declared.words.WordName.{WordName}
 use Rattle.plat_events.specs.Places.{place_of}
 use Rattle.plat_base.specs.declared.items.Translation.{Translation}
-use Rattle.plat_events.specs.Sessions.{Fault, Phase, Stamping, Seeking, Taking, Returning, Shooting, Filling, Reading, Copying, Giving, Storing, Granting, Unlocking, Session, decision_of, change_made}
+use Rattle.plat_events.specs.Sessions.{Fault, Phase, Stamping, Seeking, Taking, Returning, Shooting, Filling, Reading, Copying, Giving}
+use Rattle.plat_events.specs.Sessions.{Storing, Granting, Unlocking, Session, decision_of, change_made}
 use Rattle.plat_shoot.specs.declared.needs.Need.{Need}
 use Rattle.plat_shoot.specs.declared.needs.Need.TheVariants as need
 use Rattle.plat_shoot.specs.declared.needs.Own.{Own}
 use Rattle.plat_shoot.specs.ShootSeen.{ShootSeen, own_by}
-use Rattle.plat_handler.specs.Stages.{Stage, Locks, Relocks, Runs, Rewaits, Returned, Changed, stage_next, stage_after, own_told, installed_by}
+use Rattle.plat_handler.specs.Stages.{Stage, Locks, Relocks, Runs, Rewaits, Returned, Changed, stage_next, stage_after, own_told}
+use Rattle.plat_handler.specs.Stages.{installed_by}
 use Rattle.plat_handler.specs.Phases.{answer_of}
 use Rattle.plat_handler.specs.Fits.{StageFits, StageShoots}
 use Rattle.plat_handler.specs.declared.asks.Ask.{Ask}

@@ -10,7 +10,9 @@ use Rattle.plat_base.specs.declared.words.WordName.TheVariants as word
 use Rattle.plat_events.specs.Words.{lock_place, is_locked, dir_read}
 use Rattle.plat_events.specs.Events.{is_followed}
 use Rattle.plat_events.specs.Shootdowns.{Shoot, Makes, Polls, Done, shot_after, own_post}
-use Rattle.plat_events.specs.Sessions.{Fault, Course, Phase, Stamping, Seeking, Taking, Returning, Shooting, Filling, Reading, Copying, Giving, Storing, Granting, Unlocking, Session, session_next, phase_after, with_phase, translation_made}
+use Rattle.plat_events.specs.Sessions.{Fault, Course, Phase, Stamping, Seeking, Taking, Returning, Shooting, Filling, Reading, Copying}
+use Rattle.plat_events.specs.Sessions.{Giving, Storing, Granting, Unlocking, Session, session_next, phase_after, with_phase}
+use Rattle.plat_events.specs.Sessions.{translation_made}
 use Rattle.plat_events.specs.Privates.{Place, Polling, Relock, Rewait, Locking, InSession}
 
 pub data Stage : Type 0 where

@@ -4,7 +4,8 @@ ghost use Rattle.plat_base.specs.Machine.{Machine};
 ghost use Rattle.plat_base.specs.Seen.{machine};
 ghost use Rattle.plat_events.specs.Places.{is_name, place_of};
 ghost use Rattle.plat_handler.specs.Fits.{is_fault};
-ghost use Rattle.plat_handler.specs.HandlerSeen.{HandlesOn, handler_started, asked, ask_seen, is_word_asked, is_polling, stage_told, own_taken, installed};
+ghost use Rattle.plat_handler.specs.HandlerSeen.{HandlesOn, handler_started, asked, ask_seen, is_word_asked, is_polling, stage_told};
+ghost use Rattle.plat_handler.specs.HandlerSeen.{own_taken, installed};
 ghost use Rattle.plat_handler.specs.Phases.{fault_seen};
 ghost use Rattle.plat_handler.specs.Stages.{stage_polled};
 
@@ -108,6 +109,20 @@ impl Handler {
                     Ask::Granted(change)
                 }
             }
+        }
+    }
+
+    /// Whether it asks for an operation next.
+    pub fn asks_word(&self) -> bool
+        ensures { (m : Machine) → result ≡ is_word_asked (asked m self.now) }
+    {
+        match self.stage {
+            Stage::Locking | Stage::Running(_) => true,
+            Stage::Shooting(_) => match &self.shoot {
+                Some(shoot) => shoot.needs_word(),
+                None => unreachable!(),
+            },
+            Stage::Relocking | Stage::Returned | Stage::Changed(_) => false,
         }
     }
 

@@ -13,7 +13,7 @@ use crate::courses::{after, shot_over};
 use crate::operations::operation;
 use crate::phases::{Course, Lock, Phase, Stage, Then};
 use plat_base::{Config, Dir, Op, WordName};
-use plat_shoot::{Need, Own, Shoot};
+use plat_shoot::{Own, Shoot};
 use plat_words::{DirWord, is_word};
 
 /// The lock found `old`: a set bit sends a processor to poll, and the daemon to lock again; else the session begins.
@@ -61,9 +61,10 @@ fn settled(cfg: &Config, lock: &Lock, course: Course, shoot: &Shoot) -> Stage
         ≡ stage_with (machine cfg.now) lock.now course shoot.now.shoot }
     ensures well { ShootsWell (Some shoot.now) result }
 {
-    match shoot.next(cfg) {
-        Need::Finished => Stage::Running(shot_over(cfg, lock, course)),
-        _ => Stage::Shooting(course),
+    if shoot.is_finished() {
+        Stage::Running(shot_over(cfg, lock, course))
+    } else {
+        Stage::Shooting(course)
     }
 }
 

@@ -1,39 +1,16 @@
 //! Two sessions, operation by operation: a fill on a machine of one node, and a migration whose target is in another space.
 ghost use Rattle.std.specs.Prelude.{◌≡◌, [], ◌∷◌, IfOk, Some};
-ghost use Rattle.plat_base.specs.Machine.{program_seen};
 ghost use Rattle.plat_base.specs.Seen.{machine};
 ghost use Rattle.plat_handler.specs.HandlerSeen.{HandlesOn};
 
 use super::*;
 use plat_base::{
-    Action, Cause, Change, Config, Copies, Dir, Entry, Frame, Grant, GuestText, List, Op,
-    OutOfMemory, Plan, PolicyKind, Removed, Right, State,
+    Action, Cause, Change, Config, Copies, Dir, Frame, Grant, Op, OutOfMemory, PolicyKind, Removed,
+    Right, State,
 };
+use plat_samples::{Sizes, entry, idle_nodes};
 use std::alloc::Global;
 use std::test::Fail;
-
-fn guest(alloc: Global) -> GuestText
-    ensures { program_seen result ≡ record { space = 0; code = []; labels = [] } }
-{
-    GuestText {
-        space: 0,
-        code: List::new(alloc),
-        labels: List::new(alloc),
-    }
-}
-
-/// One entry, of virtual page 0 of space 0.
-fn entries(alloc: Global) -> Result<List<Entry>, OutOfMemory>
-    ensures { IfOk result (λ list. list.items ≡ record { space = 0; vpage = 0; page = 0 } ∷ []) }
-{
-    let mut entries = List::with_room(alloc, 1)?;
-    entries.push(Entry {
-        space: 0,
-        vpage: 0,
-        page: 0,
-    });
-    Ok(entries)
-}
 
 /// The directory of the page stands at 4, its stamp at 5, the mask at 6, the pool at 7, and its frame at 8.
 fn one_node(alloc: Global) -> Result<Config, OutOfMemory>
@@ -42,22 +19,13 @@ fn one_node(alloc: Global) -> Result<Config, OutOfMemory>
     ensures entries { IfOk result (λ cfg. cfg.entries.items
         ≡ record { space = 0; vpage = 0; page = 0 } ∷ []) }
 {
-    let entries = entries(alloc)?;
-    let mut guests = List::with_room(alloc, 1)?;
-    guests.push(guest(alloc));
-    Ok(Config {
+    let sizes = Sizes {
         nodes: 1,
         frames: 1,
-        words: 4,
         pages: 1,
-        policy: PolicyKind::Place,
         budget: 10,
-        schedule: Plan::Robin,
-        distances: List::new(alloc),
-        entries,
-        inits: List::new(alloc),
-        guests,
-    })
+    };
+    idle_nodes(alloc, sizes, PolicyKind::Place, &[entry(0, 0)], &[])
 }
 
 /// The active spaces stand at 2 and 3, the directory of the page at 6, its stamp at 7, the mask at 8, the pools at 9 and 10,
@@ -68,23 +36,13 @@ fn two_nodes(alloc: Global) -> Result<Config, OutOfMemory>
     ensures entries { IfOk result (λ cfg. cfg.entries.items
         ≡ record { space = 0; vpage = 0; page = 0 } ∷ []) }
 {
-    let entries = entries(alloc)?;
-    let mut guests = List::with_room(alloc, 2)?;
-    guests.push(guest(alloc));
-    guests.push(guest(alloc));
-    Ok(Config {
+    let sizes = Sizes {
         nodes: 2,
         frames: 4,
-        words: 4,
         pages: 1,
-        policy: PolicyKind::Replicate,
         budget: 100,
-        schedule: Plan::Robin,
-        distances: List::new(alloc),
-        entries,
-        inits: List::new(alloc),
-        guests,
-    })
+    };
+    idle_nodes(alloc, sizes, PolicyKind::Replicate, &[entry(0, 0)], &[])
 }
 
 /// What the handler asks, and what it takes of the actor's own translations where that is an operation and finds `old`.

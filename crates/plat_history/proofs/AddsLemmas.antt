@@ -1,21 +1,12 @@
 -- two writings of pieces, one after the other
-use Rattle.std.proofs.Common.{◌≡◌, ℕ, ◌≤◌, ◌||◌, Bool, true, false, List, [], ◌++◌, Option, Result, Ok, Err, inl, inr, refl, sym, ap, ◌∙◌, arith}
+use Rattle.std.proofs.Common.{◌≡◌, ℕ, ◌≤◌, ◌||◌, Bool, true, false, List, [], ◌++◌, Option, Result, Ok, Err, inl, inr, refl, sym, ap, ◌∙◌}
+use Rattle.std.proofs.Common.{arith}
 use Rattle.std.specs.Result.{IsErr}
+use Rattle.std.proofs.lemmas.Bool.{or_left, or_right}
 use Rattle.plat_io.specs.Streams.{added, HasRisen}
 use Rattle.plat_io.specs.Adds.{Adds}
 use Rattle.plat_io.specs.declared.sinks.Sink.{Ghosts}
-use Rattle.plat_io.proofs.Pieces.{added_append, added_none, is_part_append}
-
-or-left : (a b : Bool) → a ≡ true → (a || b) ≡ true
-or-left a b h = rw h refl
-
-or-right : (a b : Bool) → b ≡ true → (a || b) ≡ true
-or-right true b h = refl
-or-right false b h = h
-
-HasRisen-later : (a b c : ℕ) → a ≤ b → HasRisen b c → HasRisen a c
-HasRisen-later a b c h (inl k) = inl (omega arith)
-HasRisen-later a b c h (inr k) = inr k
+use Rattle.plat_io.proofs.Pieces.{added_append, added_none, is_part_append, HasRisen-later}
 
 pub adds_nothing : {K E : Type 0} (sink : Ghosts K) (k : K) → Adds {E = E} sink k k (Ok (tt {0})) []
 adds_nothing sink k = record { whole = sym (added_none (sink.holds k)); part = tt; risen = tt; count = omega arith; size = refl }
@@ -33,7 +24,7 @@ adds_then sink a b c u (Ok v) p q h k = record {
 }
 adds_then sink a b c u (Err e) p q h k = record {
   whole = tt;
-  part = rw is_part_append (or-right _ _ (rw h.whole at k.part));
+  part = rw is_part_append (or_right _ _ (rw h.whole at k.part));
   risen = HasRisen-later _ _ _ h.count k.risen;
   count = omega (arith, h.count, k.count);
   size = k.size ∙ h.size;
@@ -46,7 +37,7 @@ pub adds_begun :
 adds_begun sink a b e (Ok u) p q f h = absurd cc
 adds_begun sink a b e (Err fault) p q f h = record {
   whole = tt;
-  part = rw is_part_append (or-left _ _ h.part);
+  part = rw is_part_append (or_left _ _ h.part);
   risen = h.risen;
   count = h.count;
   size = h.size;

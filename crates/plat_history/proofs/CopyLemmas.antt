@@ -1,5 +1,6 @@
 -- the copies of a directory, written module by module
-use Rattle.std.proofs.Common.{◌≡◌, ℕ, ◌+◌, ◌<◌, ◌≤◌, Bool, true, false, cond, ltb, List, [], ◌∷◌, ◌++◌, map, Some, None, refl, ap, sym, ◌∙◌, arith, append_assoc, append-nil}
+use Rattle.std.proofs.Common.{◌≡◌, ℕ, ◌+◌, ◌<◌, ◌≤◌, Bool, true, false, cond, ltb, List, [], ◌∷◌, ◌++◌, map, Some, None, refl, ap, sym, ◌∙◌}
+use Rattle.std.proofs.Common.{arith, append_assoc, append-nil}
 use Rattle.std.specs.Prelude.{IsTrue}
 use Rattle.std.specs.List.{filter, join_with_byte}
 use Rattle.std.proofs.lemmas.Bool.Decides.{nat_tests}
@@ -16,9 +17,11 @@ abbrev pub mark_after : List Frame → ℕ
 mark_after [] = colon
 mark_after (f ∷ fs) = comma
 
-join-push : (byte : ℕ) (w : List ℕ) (ws : List (List ℕ)) (x : List ℕ) → join_with_byte byte ((w ∷ ws) ++ x ∷ []) ≡ join_with_byte byte (w ∷ ws) ++ byte ∷ x
+join-push : (byte : ℕ) (w : List ℕ) (ws : List (List ℕ)) (x : List ℕ) → join_with_byte byte ((w ∷ ws) ++ x ∷ [])
+    ≡ join_with_byte byte (w ∷ ws) ++ byte ∷ x
 join-push byte w [] x = refl
-join-push byte w (v ∷ vs) x = ap (λ k. w ++ byte ∷ k) (join-push byte v vs x) ∙ sym (append_assoc w (byte ∷ join_with_byte byte (v ∷ vs)) (byte ∷ x))
+join-push byte w (v ∷ vs) x = ap (λ k. w ++ byte ∷ k) (join-push byte v vs x)
+    ∙ sym (append_assoc w (byte ∷ join_with_byte byte (v ∷ vs)) (byte ∷ x))
 
 map-push : (fs : List Frame) (f : Frame) → map frame_word (fs ++ f ∷ []) ≡ map frame_word fs ++ frame_word f ∷ []
 map-push [] f = refl
@@ -27,7 +30,8 @@ map-push (g ∷ gs) f = ap (λ k. frame_word g ∷ k) (map-push gs f)
 pub copies_part-push : (fs : List Frame) (f : Frame) → copies_part (fs ++ f ∷ []) ≡ copies_part fs ++ mark_after fs ∷ frame_word f
 copies_part-push [] f = refl
 copies_part-push (g ∷ gs) f =
-    ap (λ k. colon ∷ join_with_byte comma (frame_word g ∷ k)) (map-push gs f) ∙ ap (λ k. colon ∷ k) (join-push comma (frame_word g) (map frame_word gs) (frame_word f))
+    ap (λ k. colon ∷ join_with_byte comma (frame_word g ∷ k)) (map-push gs f)
+    ∙ ap (λ k. colon ∷ k) (join-push comma (frame_word g) (map frame_word gs) (frame_word f))
 
 pub mark_after-push : (fs : List Frame) (f : Frame) → mark_after (fs ++ f ∷ []) ≡ comma
 mark_after-push [] f = refl
@@ -43,10 +47,18 @@ none_on : (n low : ℕ) (fs : List Frame) → n < low → IsTrue (are_copies_fro
 none_on n low [] k h = refl
 none_on n low (f ∷ fs) k h = grind (arith, nat_tests, none_on n (f.module + 1) fs)
 
-below-some_from : (n low : ℕ) (f : Frame) (fs : List Frame) → IsTrue (are_copies_from low fs) → copy_on n fs ≡ Some f → below (n + 1) fs ≡ below n fs ++ f ∷ []
+below-some_from : (n low : ℕ) (f : Frame) (fs : List Frame) → IsTrue (are_copies_from low fs) → copy_on n fs ≡ Some f →
+    below (n + 1) fs ≡ below n fs ++ f ∷ []
 below-some_from n low f [] h e = absurd cc
 below-some_from n low f (g ∷ gs) h e =
-    grind (arith, nat_tests, below-some_from n (g.module + 1) f gs, none_below (n + 1) (g.module + 1) gs, none_below n (g.module + 1) gs, none_on n (g.module + 1) gs)
+    grind (
+      arith,
+      nat_tests,
+      below-some_from n (g.module + 1) f gs,
+      none_below (n + 1) (g.module + 1) gs,
+      none_below n (g.module + 1) gs,
+      none_on n (g.module + 1) gs,
+    )
 
 pub below-some : (n : ℕ) (f : Frame) (fs : List Frame) → AreCopies fs → copy_on n fs ≡ Some f → below (n + 1) fs ≡ below n fs ++ f ∷ []
 below-some n f fs h e = below-some_from n 0 f fs h e
@@ -70,7 +82,8 @@ below-first (f ∷ fs) = grind (arith, nat_tests, below-first fs)
 
 -- what stands after the copies on modules below this one
 pub copies-some : (n : ℕ) (f : Frame) (fs : List Frame) → AreCopies fs → copy_on n fs ≡ Some f
-    → (copies_part (below (n + 1) fs) ≡ copies_part (below n fs) ++ mark_after (below n fs) ∷ frame_word f) × (mark_after (below (n + 1) fs) ≡ comma)
+    → (copies_part (below (n + 1) fs) ≡ copies_part (below n fs) ++ mark_after (below n fs) ∷ frame_word f)
+    × (mark_after (below (n + 1) fs) ≡ comma)
 copies-some n f fs h e = rw (below-some n f fs h e) (copies_part-push (below n fs) f, mark_after-push (below n fs) f)
 
 -- the bytes of some copies begin those of these and more
@@ -79,10 +92,12 @@ begins fs [] = ([], ap copies_part (append-nil fs) ∙ sym (append-nil (copies_p
 begins fs (g ∷ gs) =
     let t = begins (fs ++ g ∷ []) gs in (
       (mark_after fs ∷ frame_word g) ++ t.0,
-      ap copies_part (sym (append_assoc fs (g ∷ []) gs)) ∙ t.1 ∙ ap (λ k. k ++ t.0) (copies_part-push fs g) ∙ append_assoc (copies_part fs) (mark_after fs ∷ frame_word g) t.0,
+      ap copies_part (sym (append_assoc fs (g ∷ []) gs)) ∙ t.1 ∙ ap (λ k. k ++ t.0) (copies_part-push fs g)
+          ∙ append_assoc (copies_part fs) (mark_after fs ∷ frame_word g) t.0,
     )
 
-prefix-next : (n : ℕ) (f : Frame) (fs : List Frame) (v : Bool) → ltb f.module n ≡ v → IsTrue (are_copies_from (f.module + 1) fs) → (gs : List Frame) × (fs ≡ below n fs ++ gs)
+prefix-next : (n : ℕ) (f : Frame) (fs : List Frame) (v : Bool) → ltb f.module n ≡ v → IsTrue (are_copies_from (f.module + 1) fs) →
+    (gs : List Frame) × (fs ≡ below n fs ++ gs)
     → (gs : List Frame) × (f ∷ fs ≡ cond v (f ∷ below n fs) (below n fs) ++ gs)
 prefix-next n f fs true t h u = (u.0, ap (λ k. f ∷ k) u.1)
 prefix-next n f fs false t h u =
@@ -94,7 +109,8 @@ rising low f fs h = grind (arith, nat_tests)
 
 below-prefix : (n low : ℕ) (fs : List Frame) → IsTrue (are_copies_from low fs) → (gs : List Frame) × (fs ≡ below n fs ++ gs)
 below-prefix n low [] h = ([], refl)
-below-prefix n low (f ∷ fs) h = let more = rising low f fs h in prefix-next n f fs (ltb f.module n) refl more (below-prefix n (f.module + 1) fs more)
+below-prefix n low (f ∷ fs) h = let more = rising low f fs h in
+    prefix-next n f fs (ltb f.module n) refl more (below-prefix n (f.module + 1) fs more)
 
 -- the bytes of the copies on modules below this one begin those of all
 pub copies-begin : (n : ℕ) (fs : List Frame) → AreCopies fs → (rest : List ℕ) × (copies_part fs ≡ copies_part (below n fs) ++ rest)
@@ -103,7 +119,8 @@ copies-begin n fs h =
     let u = begins (below n fs) t.0 in
     (u.0, ap copies_part t.1 ∙ u.1)
 
-module _ (n mark : ℕ) (f : Frame) (fs : List Frame) (h : AreCopies fs) (here : copy_on n fs ≡ Some f) (is : mark ≡ mark_after (below n fs)) where
+module _ (n mark : ℕ) (f : Frame) (fs : List Frame) (h : AreCopies fs) (here : copy_on n fs ≡ Some f)
+    (is : mark ≡ mark_after (below n fs)) where
   -- one copy more
   pub copies-more : copies_part (below (n + 1) fs) ≡ copies_part (below n fs) ++ (mark ∷ frame_word f)
   copies-more = (copies-some n f fs h here).0 ∙ ap (λ k. copies_part (below n fs) ++ k ∷ frame_word f) (sym is)

@@ -1,5 +1,6 @@
 -- directories as single words: what is read is spelled so, and what is spelled so is read
-use Rattle.std.proofs.Common.{◌≡◌, ℕ, ◌+◌, ◌^◌, ◌≤◌, Bool, true, false, not, ltb, List, [], ◌∷◌, ◌++◌, length, map, Option, Some, None, Ok, refl, ap, sym, ◌∙◌, subst, arith, append_assoc, append-nil}
+use Rattle.std.proofs.Common.{◌≡◌, ℕ, ◌+◌, ◌^◌, ◌≤◌, Bool, true, false, not, ltb, List, [], ◌∷◌, ◌++◌, length, map, Option, Some, None, Ok}
+use Rattle.std.proofs.Common.{refl, ap, sym, ◌∙◌, subst, arith, append_assoc, append-nil}
 use Rattle.std.specs.List.{list_all, slice_split, join_with_byte}
 use Rattle.std.specs.Fmt.{decimal}
 use Rattle.std.proofs.lemmas.Bool.{and_parts, and_from, not-true, not_from_false}
@@ -44,9 +45,16 @@ module _ (m : Machine) (entries : length m.entries ≤ 2 ^ 32) (nodes : m.nodes 
 
   -- ---- copies
 
-  copies-take : (low : ℕ) (seen : List Frame) (parts : List (List ℕ)) (fs : List Frame) → copies_from m.nodes m.frames low seen parts ≡ Ok fs → Rises m low seen parts fs
+  copies-take : (low : ℕ) (seen : List Frame) (parts : List (List ℕ)) (fs : List Frame) → copies_from m.nodes m.frames low seen parts
+      ≡ Ok fs → Rises m low seen parts fs
   unfolding copies_from
-  copies-take low seen [] fs e = record { new = []; all = sym (ok_is seen fs e) ∙ sym (append-nil seen); words = refl; frames = refl; rising = refl }
+  copies-take low seen [] fs e = record {
+    new = [];
+    all = sym (ok_is seen fs e) ∙ sym (append-nil seen);
+    words = refl;
+    frames = refl;
+    rising = refl;
+  }
   copies-take low seen (part ∷ parts) fs e =
       taking (frame_of m.nodes m.frames part) _ _ e (λ f f-is e1. taking (above low f) _ _ e1 (λ g g-is e2.
       let one = frame_form.takes part f f-is in
@@ -60,7 +68,8 @@ module _ (m : Machine) (entries : length m.entries ≤ 2 ^ 32) (nodes : m.nodes 
         rising = and_from (not (ltb f.module low)) (modules_rise (f.module + 1) u.new) (not_from_false _ passed.0) u.rising;
       }))
 
-  copies-again : (low : ℕ) (seen new : List Frame) → list_all (is_frame m) new ≡ true → modules_rise low new ≡ true → copies_from m.nodes m.frames low seen (map frame_word new) ≡ Ok (seen ++ new)
+  copies-again : (low : ℕ) (seen new : List Frame) → list_all (is_frame m) new ≡ true → modules_rise low new ≡ true →
+      copies_from m.nodes m.frames low seen (map frame_word new) ≡ Ok (seen ++ new)
   unfolding copies_from
   copies-again low seen [] h r = ap Ok (sym (append-nil seen))
   copies-again low seen (f ∷ fs) h r =
@@ -70,13 +79,19 @@ module _ (m : Machine) (entries : length m.entries ≤ 2 ^ 32) (nodes : m.nodes 
       (then_ok (above low f) _ f _ (rw (not-true _ rises.0) refl)
       (copies-again (f.module + 1) (seen ++ f ∷ []) fs here.1 rises.1 ∙ ap Ok (append_assoc seen (f ∷ []) fs)))
 
-  frame-lacks : (byte : ℕ) (f : Frame) → is_frame m f ≡ true → (lacks byte (decimal f.module) ≡ true) × (lacks byte (decimal f.number) ≡ true) → lacks byte (point ∷ []) ≡ true → lacks byte (frame_word f) ≡ true
-  frame-lacks byte f h parts p = lacks-append byte (decimal f.module) (point ∷ decimal f.number) parts.0 (lacks-append byte (point ∷ []) (decimal f.number) p parts.1)
+  frame-lacks : (byte : ℕ) (f : Frame) → is_frame m f ≡ true → (lacks byte (decimal f.module) ≡ true)
+      × (lacks byte (decimal f.number) ≡ true) → lacks byte (point ∷ []) ≡ true → lacks byte (frame_word f) ≡ true
+  frame-lacks byte f h parts p =
+      lacks-append byte (decimal f.module) (point ∷ decimal f.number) parts.0 (lacks-append byte (point ∷ []) (decimal f.number) p parts.1)
 
   no_comma : (f : Frame) → is_frame m f ≡ true → lacks comma (frame_word f) ≡ true
-  no_comma f h = frame-lacks comma f h (module-lacks m entries nodes frames comma f refl h, number-lacks m entries nodes frames comma f refl h) refl
+  no_comma f h = frame-lacks comma f h (
+    module-lacks m entries nodes frames comma f refl h,
+    number-lacks m entries nodes frames comma f refl h,
+  ) refl
 
-  split-joined : (f : Frame) (fs : List Frame) → list_all (is_frame m) (f ∷ fs) ≡ true → slice_split (is_byte comma) (join_with_byte comma (map frame_word (f ∷ fs))) ≡ map frame_word (f ∷ fs)
+  split-joined : (f : Frame) (fs : List Frame) → list_all (is_frame m) (f ∷ fs) ≡ true →
+      slice_split (is_byte comma) (join_with_byte comma (map frame_word (f ∷ fs))) ≡ map frame_word (f ∷ fs)
   split-joined f [] h =
       let here = and_parts (is_frame m f) true h in
       parts-end (frame_word f) (sym (cut-lacks comma (frame_word f) (no_comma f here.0)))
@@ -91,7 +106,8 @@ module _ (m : Machine) (entries : length m.entries ≤ 2 ^ 32) (nodes : m.nodes 
       let no_parts : length (slice_split (is_byte comma) word) ≡ 0 = ap length e ∙ ap (λ k. length (map frame_word k)) none in
       omega (arith, length-slice_split (is_byte comma) word, no_parts)
 
-  copies-word : (word : List ℕ) (fs : List Frame) → copies_of m.nodes m.frames word ≡ Ok fs → (colon ∷ word ≡ copies_part fs) × (are_frames m fs ≡ true)
+  copies-word : (word : List ℕ) (fs : List Frame) → copies_of m.nodes m.frames word ≡ Ok fs → (colon ∷ word ≡ copies_part fs)
+      × (are_frames m fs ≡ true)
   copies-word word fs e =
       let t = copies-take 0 [] (slice_split (is_byte comma) word) fs e in
       let same : t.new ≡ fs = sym t.all in
@@ -108,19 +124,22 @@ module _ (m : Machine) (entries : length m.entries ≤ 2 ^ 32) (nodes : m.nodes 
   abbrev dir_with : State × Bool → List Frame → Dir
   dir_with head copies = record { state = head.0; frozen = head.1; copies = copies }
 
-  dir-take : (word : List ℕ) (cuts : Option (List ℕ × List ℕ)) (d : Dir) → cut colon word ≡ cuts → dir_parts m.nodes m.frames word cuts ≡ Ok d → (word ≡ dir_word d) × (is_told_dir m d ≡ true)
+  dir-take : (word : List ℕ) (cuts : Option (List ℕ × List ℕ)) (d : Dir) → cut colon word ≡ cuts → dir_parts m.nodes m.frames word cuts
+      ≡ Ok d → (word ≡ dir_word d) × (is_told_dir m d ≡ true)
   dir-take word None d c e = taking (named heads word) _ _ e (λ head head-is e1.
       let value : dir_with head [] ≡ d = ok_is (dir_with head []) d e1 in
       let t = heads-law.takes word head head-is in
       rw (← value) (t.0 ∙ sym (append-nil (head_word head)), refl))
-  dir-take word (Some parts) d c e = taking (named heads parts.0) _ _ e (λ head head-is e1. taking (copies_of m.nodes m.frames parts.1) _ _ e1 (λ copies copies-is e2.
+  dir-take word (Some parts) d c e =
+      taking (named heads parts.0) _ _ e (λ head head-is e1. taking (copies_of m.nodes m.frames parts.1) _ _ e1 (λ copies copies-is e2.
       let value : dir_with head copies ≡ d = ok_is (dir_with head copies) d e2 in
       let t = heads-law.takes parts.0 head head-is in
       let u = copies-word parts.1 copies copies-is in
       let whole : word ≡ head_word head ++ copies_part copies = cut-takes colon word parts.0 parts.1 c ∙ rw (t.0, u.0) refl in
       rw (← value) (whole, u.1)))
 
-  dir-again : (s : State) (frozen : Bool) (fs : List Frame) → are_frames m fs ≡ true → dir_of m.nodes m.frames (dir_word (dir_with (s, frozen) fs)) ≡ Ok (dir_with (s, frozen) fs)
+  dir-again : (s : State) (frozen : Bool) (fs : List Frame) → are_frames m fs ≡ true →
+      dir_of m.nodes m.frames (dir_word (dir_with (s, frozen) fs)) ≡ Ok (dir_with (s, frozen) fs)
   unfolding dir_of
   dir-again s frozen [] h =
       let word : List ℕ = head_word (s, frozen) in
@@ -132,9 +151,11 @@ module _ (m : Machine) (entries : length m.entries ≤ 2 ^ 32) (nodes : m.nodes 
       let both = and_parts (list_all (is_frame m) (f ∷ fs)) (modules_rise 0 (f ∷ fs)) h in
       let word : List ℕ = head_word (s, frozen) in
       let list : List ℕ = join_with_byte comma (map frame_word (f ∷ fs)) in
-      let read : copies_of m.nodes m.frames list ≡ Ok (f ∷ fs) = ap (copies_from m.nodes m.frames 0 []) (split-joined f fs both.0) ∙ copies-again 0 [] (f ∷ fs) both.0 both.1 in
+      let read : copies_of m.nodes m.frames list ≡ Ok (f ∷ fs) = ap (copies_from m.nodes m.frames 0 []) (split-joined f fs both.0)
+      ∙ copies-again 0 [] (f ∷ fs) both.0 both.1 in
       ap (dir_parts m.nodes m.frames (word ++ colon ∷ list)) (cut-again colon word list (head-lacks s frozen))
-      ∙ then_ok (named heads word) _ (s, frozen) _ (heads-law.again (s, frozen) tt) (then_ok (copies_of m.nodes m.frames list) _ (f ∷ fs) _ read refl)
+      ∙ then_ok (named heads word) _ (s, frozen) _ (heads-law.again (s, frozen) tt)
+      (then_ok (copies_of m.nodes m.frames list) _ (f ∷ fs) _ read refl)
 
   pub dir-law : IsWordForm (dir_of m.nodes m.frames) dir_word (λ d. is_told_dir m d ≡ true)
   unfolding dir_of

@@ -16,7 +16,8 @@ exactly-same word n e = rw ((bytes_eq-Decides word (decimal n)).1 (number_of-tak
 
 -- another word does not
 not_same : (word : List ℕ) (n : ℕ) → (word ≡ decimal n → ⊥) → exactly (decimal n) word ≡ Err Expected
-not_same word n apart = ⊎_elim (λ t. absurd (apart ((bytes_eq-Decides word (decimal n)).0 t))) (λ t. rw t refl) (cases_Bool (bytes_eq word (decimal n)))
+not_same word n apart = ⊎_elim (λ t. absurd (apart ((bytes_eq-Decides word (decimal n)).0 t))) (λ t. rw t refl)
+    (cases_Bool (bytes_eq word (decimal n)))
 
 pub exactly-other : (word : List ℕ) (k n : ℕ) → n < 2 ^ 32 → Ok k ≡ number_of word → (k ≡ n → ⊥) → exactly (decimal n) word ≡ Err Expected
 exactly-other word k n small e apart = not_same word n (λ same. apart (ok_is k n (e ∙ ap number_of same ∙ number_of-again n small)))

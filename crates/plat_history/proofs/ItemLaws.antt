@@ -15,8 +15,10 @@ use Rattle.plat_base.specs.declared.items.Item.TheVariants as item
 use Rattle.plat_text.proofs.Results.{taking, then_ok, ok_is}
 use Rattle.plat_text.proofs.WordLaws.{IsWordForm, any-law, number-law, below-law}
 use Rattle.plat_text.proofs.FormLaws.{row_texts, IsTail, one-law, nothing-law, choice-takes, choice-again}
-use Rattle.plat_grammar.specs.HistoryCanon.{kind_word, cause_word, action_word, removed_word, message_word, moment_word, dir_word, grant_word, access_words, change_words, applied_words, switch_words, item_words}
-use Rattle.plat_grammar.specs.HistoryForms.{named, kinds, causes, actions, removals, messages, moments, granted_of, dir_of, access_of, change_of_words, access_line, change_line, applied_line, switch_line, item_kinds, item_line}
+use Rattle.plat_grammar.specs.HistoryCanon.{kind_word, cause_word, action_word, removed_word, message_word, moment_word, dir_word}
+use Rattle.plat_grammar.specs.HistoryCanon.{grant_word, access_words, change_words, applied_words, switch_words, item_words}
+use Rattle.plat_grammar.specs.HistoryForms.{named, kinds, causes, actions, removals, messages, moments, granted_of, dir_of, access_of}
+use Rattle.plat_grammar.specs.HistoryForms.{change_of_words, access_line, change_line, applied_line, switch_line, item_kinds, item_line}
 use Rattle.plat_grammar.specs.HistoryGrammar.{is_told_dir, is_told_grant, IsToldAccess, IsToldChange, IsToldApplied, IsToldSwitch, IsTold}
 use Rattle.plat_history.proofs.NameLaws.{kinds-law, causes-law, actions-law, removals-law, messages-law, moments-law}
 use Rattle.plat_history.proofs.PartLaws.{frame_from, frame_parts, granted-law}
@@ -25,13 +27,16 @@ use Rattle.plat_history.proofs.DirLaws.{dir-law}
 -- ---- reading on after a word that fits, and at the end of a line
 
 pub word_on :
-    {A C : Type 0} {of : List ℕ → Result A Why} {spell : A → List ℕ} {fits : A → Type 0} (law : IsWordForm of spell fits) (row : Row) (x : A) (more : List (List ℕ))
-    → fits x → row_texts row ≡ spell x ∷ more → (f : A × Row → Result C Refused) (z : Result C Refused) → ((after : Row) → row_texts after ≡ more → f (x, after) ≡ z) → (one of row >>= f) ≡ z
+    {A C : Type 0} {of : List ℕ → Result A Why} {spell : A → List ℕ} {fits : A → Type 0} (law : IsWordForm of spell fits) (row : Row)
+    (x : A) (more : List (List ℕ))
+    → fits x → row_texts row ≡ spell x ∷ more → (f : A × Row → Result C Refused) (z : Result C Refused) →
+    ((after : Row) → row_texts after ≡ more → f (x, after) ≡ z) → (one of row >>= f) ≡ z
 word_on law row x more h e f z go =
     let t = (one-law law).again row x more h e in
     then_ok (one _ row) f (x, t.1) z (t.2 ∙ ap (λ k. Ok (k, t.1)) t.3) (go t.1 t.4)
 
-pub end_on : {C : Type 0} (row : Row) → row_texts row ≡ [] → (f : Unit {0} → Result C Refused) (z : Result C Refused) → f (tt {0}) ≡ z → (nothing row >>= f) ≡ z
+pub end_on : {C : Type 0} (row : Row) → row_texts row ≡ [] → (f : Unit {0} → Result C Refused) (z : Result C Refused) → f (tt {0}) ≡ z →
+    (nothing row >>= f) ≡ z
 end_on row e f z go = let t = nothing-law.again row (tt {0}) tt e in then_ok (nothing row) f (tt {0}) z (t.1 ∙ ap Ok t.2) go
 
 -- numbers of a machine that fit 32 bits
@@ -99,11 +104,40 @@ module _ (m : Machine) (small : IsSmall m) where
       let t_grant = (one-law any-law).takes (number.1) grant.0 grant.1 grant-is in
       let t_over = nothing-law.takes (grant.1) over over-is in
       let value : access_of actor.0 kind.0 space.0 addr.0 page.0 word.0 old.0 new.0 version.0 mo.0 number.0 grant.0 ≡ i = ok_is _ i e13 in
-      let words : row_texts row ≡ decimal actor.0 ∷ kind_word kind.0 ∷ decimal space.0 ∷ decimal addr.0 ∷ decimal page.0 ∷ decimal word.0 ∷ decimal old.0 ∷ decimal new.0 ∷ decimal version.0 ∷ decimal mo.0 ∷ decimal number.0 ∷ decimal grant.0 ∷ [] =
-      t_actor.0 ∙ ap (λ (k : List (List ℕ)). decimal actor.0 ∷ k) (t_kind.0 ∙ ap (λ (k : List (List ℕ)). kind_word kind.0 ∷ k) (t_space.0 ∙ ap (λ (k : List (List ℕ)). decimal space.0 ∷ k) (t_addr.0 ∙ ap (λ (k : List (List ℕ)). decimal addr.0 ∷ k) (t_page.0 ∙ ap (λ (k : List (List ℕ)). decimal page.0 ∷ k) (t_word.0 ∙ ap (λ (k : List (List ℕ)). decimal word.0 ∷ k) (t_old.0 ∙ ap (λ (k : List (List ℕ)). decimal old.0 ∷ k) (t_new.0 ∙ ap (λ (k : List (List ℕ)). decimal new.0 ∷ k) (t_version.0 ∙ ap (λ (k : List (List ℕ)). decimal version.0 ∷ k) (t_mo.0 ∙ ap (λ (k : List (List ℕ)). decimal mo.0 ∷ k) (t_number.0 ∙ ap (λ (k : List (List ℕ)). decimal number.0 ∷ k) (t_grant.0 ∙ ap (λ (k : List (List ℕ)). decimal grant.0 ∷ k) (t_over.0)))))))))))) in
-      rw (← value) (ap (λ (k : List (List ℕ)). codes "access" ∷ k) words, record { actor = t_actor.1; space = t_space.1.1; addr = t_addr.1; page = t_page.1; word = t_word.1; old = t_old.1; new = t_new.1; version = t_version.1; frame = frame_from m entries nodes frames (record { «module» = mo.0; number = number.0 }) t_mo.1 t_number.1; grant = t_grant.1 }))))))))))))))
+      let words : row_texts row ≡ decimal actor.0 ∷ kind_word kind.0 ∷ decimal space.0 ∷ decimal addr.0 ∷ decimal page.0 ∷ decimal word.0
+      ∷ decimal old.0 ∷ decimal new.0 ∷ decimal version.0 ∷ decimal mo.0 ∷ decimal number.0 ∷ decimal grant.0 ∷ [] =
+      t_actor.0 ∙ ap (λ (k : List (List ℕ)). decimal actor.0 ∷ k)
+      (t_kind.0 ∙ ap (λ (k : List (List ℕ)). kind_word kind.0 ∷ k)
+      (t_space.0 ∙ ap (λ (k : List (List ℕ)). decimal space.0 ∷ k)
+      (t_addr.0 ∙ ap (λ (k : List (List ℕ)). decimal addr.0 ∷ k)
+      (t_page.0 ∙ ap (λ (k : List (List ℕ)). decimal page.0 ∷ k)
+      (t_word.0 ∙ ap (λ (k : List (List ℕ)). decimal word.0 ∷ k)
+      (t_old.0 ∙ ap (λ (k : List (List ℕ)). decimal old.0 ∷ k)
+      (t_new.0 ∙ ap (λ (k : List (List ℕ)). decimal new.0 ∷ k)
+      (t_version.0 ∙ ap (λ (k : List (List ℕ)). decimal version.0 ∷ k)
+      (t_mo.0 ∙ ap (λ (k : List (List ℕ)). decimal mo.0 ∷ k)
+      (t_number.0 ∙ ap (λ (k : List (List ℕ)). decimal number.0 ∷ k)
+      (t_grant.0 ∙ ap (λ (k : List (List ℕ)). decimal grant.0 ∷ k) (t_over.0)))))))))))) in
+      rw (← value) (
+        ap (λ (k : List (List ℕ)). codes "access" ∷ k) words,
+        record {
+          actor = t_actor.1;
+          space = t_space.1.1;
+          addr = t_addr.1;
+          page = t_page.1;
+          word = t_word.1;
+          old = t_old.1;
+          new = t_new.1;
+          version = t_version.1;
+          frame = frame_from m entries nodes frames (record { «module» = mo.0; number = number.0 }) t_mo.1
+              t_number.1;
+          grant = t_grant.1;
+        },
+      ))))))))))))))
 
-  access-again : (row : Row) (a : Access) → IsToldAccess m a → row_texts row ≡ decimal a.actor ∷ kind_word a.kind ∷ decimal a.space ∷ decimal a.addr ∷ decimal a.page ∷ decimal a.word ∷ decimal a.old ∷ decimal a.new ∷ decimal a.version ∷ decimal a.frame.module ∷ decimal a.frame.number ∷ decimal a.grant ∷ [] → access_line m row ≡ Ok (item.Access a)
+  access-again : (row : Row) (a : Access) → IsToldAccess m a → row_texts row ≡ decimal a.actor ∷ kind_word a.kind ∷ decimal a.space
+      ∷ decimal a.addr ∷ decimal a.page ∷ decimal a.word ∷ decimal a.old ∷ decimal a.new ∷ decimal a.version ∷ decimal a.frame.module
+      ∷ decimal a.frame.number ∷ decimal a.grant ∷ [] → access_line m row ≡ Ok (item.Access a)
   unfolding access_line
   access-again row a h e =
       word_on (below-law m.nodes nodes) row a.actor _ h.actor e _ _ (λ r1 e1.
@@ -148,11 +182,34 @@ module _ (m : Machine) (small : IsSmall m) where
       let t_granted = (one-law granted_form).takes (after.1) granted.0 granted.1 granted-is in
       let t_over = nothing-law.takes (granted.1) over over-is in
       let value : change_of_words actor.0 page.0 seq.0 time.0 cause.0 action.0 removed.0 before.0 after.0 granted.0 ≡ i = ok_is _ i e11 in
-      let words : row_texts row ≡ decimal actor.0 ∷ decimal page.0 ∷ decimal seq.0 ∷ decimal time.0 ∷ cause_word cause.0 ∷ action_word action.0 ∷ removed_word removed.0 ∷ dir_word before.0 ∷ dir_word after.0 ∷ grant_word granted.0 ∷ [] =
-      t_actor.0 ∙ ap (λ (k : List (List ℕ)). decimal actor.0 ∷ k) (t_page.0 ∙ ap (λ (k : List (List ℕ)). decimal page.0 ∷ k) (t_seq.0 ∙ ap (λ (k : List (List ℕ)). decimal seq.0 ∷ k) (t_time.0 ∙ ap (λ (k : List (List ℕ)). decimal time.0 ∷ k) (t_cause.0 ∙ ap (λ (k : List (List ℕ)). cause_word cause.0 ∷ k) (t_action.0 ∙ ap (λ (k : List (List ℕ)). action_word action.0 ∷ k) (t_removed.0 ∙ ap (λ (k : List (List ℕ)). removed_word removed.0 ∷ k) (t_before.0 ∙ ap (λ (k : List (List ℕ)). dir_word before.0 ∷ k) (t_after.0 ∙ ap (λ (k : List (List ℕ)). dir_word after.0 ∷ k) (t_granted.0 ∙ ap (λ (k : List (List ℕ)). grant_word granted.0 ∷ k) (t_over.0)))))))))) in
-      rw (← value) (ap (λ (k : List (List ℕ)). codes "change" ∷ k) words, record { actor = t_actor.1.1; page = t_page.1; seq = t_seq.1; time = t_time.1; before = t_before.1; after = t_after.1; granted = t_granted.1 }))))))))))))
+      let words : row_texts row ≡ decimal actor.0 ∷ decimal page.0 ∷ decimal seq.0 ∷ decimal time.0 ∷ cause_word cause.0
+      ∷ action_word action.0 ∷ removed_word removed.0 ∷ dir_word before.0 ∷ dir_word after.0 ∷ grant_word granted.0 ∷ [] =
+      t_actor.0 ∙ ap (λ (k : List (List ℕ)). decimal actor.0 ∷ k)
+      (t_page.0 ∙ ap (λ (k : List (List ℕ)). decimal page.0 ∷ k)
+      (t_seq.0 ∙ ap (λ (k : List (List ℕ)). decimal seq.0 ∷ k)
+      (t_time.0 ∙ ap (λ (k : List (List ℕ)). decimal time.0 ∷ k)
+      (t_cause.0 ∙ ap (λ (k : List (List ℕ)). cause_word cause.0 ∷ k)
+      (t_action.0 ∙ ap (λ (k : List (List ℕ)). action_word action.0 ∷ k)
+      (t_removed.0 ∙ ap (λ (k : List (List ℕ)). removed_word removed.0 ∷ k)
+      (t_before.0 ∙ ap (λ (k : List (List ℕ)). dir_word before.0 ∷ k)
+      (t_after.0 ∙ ap (λ (k : List (List ℕ)). dir_word after.0 ∷ k)
+      (t_granted.0 ∙ ap (λ (k : List (List ℕ)). grant_word granted.0 ∷ k) (t_over.0)))))))))) in
+      rw (← value) (
+        ap (λ (k : List (List ℕ)). codes "change" ∷ k) words,
+        record {
+          actor = t_actor.1.1;
+          page = t_page.1;
+          seq = t_seq.1;
+          time = t_time.1;
+          before = t_before.1;
+          after = t_after.1;
+          granted = t_granted.1;
+        },
+      ))))))))))))
 
-  change-again : (row : Row) (c : Change) → IsToldChange m c → row_texts row ≡ decimal c.actor ∷ decimal c.page ∷ decimal c.seq ∷ decimal c.time ∷ cause_word c.cause ∷ action_word c.action ∷ removed_word c.removed ∷ dir_word c.before ∷ dir_word c.after ∷ grant_word c.granted ∷ [] → change_line m row ≡ Ok (item.Change c)
+  change-again : (row : Row) (c : Change) → IsToldChange m c →
+      row_texts row ≡ decimal c.actor ∷ decimal c.page ∷ decimal c.seq ∷ decimal c.time ∷ cause_word c.cause ∷ action_word c.action
+      ∷ removed_word c.removed ∷ dir_word c.before ∷ dir_word c.after ∷ grant_word c.granted ∷ [] → change_line m row ≡ Ok (item.Change c)
   unfolding change_line
   change-again row c h e =
       word_on (number-law 0 m.nodes most_nodes) row c.actor _ (omega arith, h.actor) e _ _ (λ r1 e1.
@@ -184,10 +241,14 @@ module _ (m : Machine) (small : IsSmall m) where
       let t_over = nothing-law.takes (moment.1) over over-is in
       let value : item.Applied (record { actor = actor.0; entry = entry.0; message = message.0; moment = moment.0 }) ≡ i = ok_is _ i e5 in
       let words : row_texts row ≡ decimal actor.0 ∷ decimal entry.0 ∷ message_word message.0 ∷ moment_word moment.0 ∷ [] =
-      t_actor.0 ∙ ap (λ (k : List (List ℕ)). decimal actor.0 ∷ k) (t_entry.0 ∙ ap (λ (k : List (List ℕ)). decimal entry.0 ∷ k) (t_message.0 ∙ ap (λ (k : List (List ℕ)). message_word message.0 ∷ k) (t_moment.0 ∙ ap (λ (k : List (List ℕ)). moment_word moment.0 ∷ k) (t_over.0)))) in
+      t_actor.0 ∙ ap (λ (k : List (List ℕ)). decimal actor.0 ∷ k)
+      (t_entry.0 ∙ ap (λ (k : List (List ℕ)). decimal entry.0 ∷ k)
+      (t_message.0 ∙ ap (λ (k : List (List ℕ)). message_word message.0 ∷ k)
+      (t_moment.0 ∙ ap (λ (k : List (List ℕ)). moment_word moment.0 ∷ k) (t_over.0)))) in
       rw (← value) (ap (λ (k : List (List ℕ)). codes "applied" ∷ k) words, record { actor = t_actor.1; entry = t_entry.1 }))))))
 
-  applied-again : (row : Row) (a : Applied) → IsToldApplied m a → row_texts row ≡ decimal a.actor ∷ decimal a.entry ∷ message_word a.message ∷ moment_word a.moment ∷ [] → applied_line m row ≡ Ok (item.Applied a)
+  applied-again : (row : Row) (a : Applied) → IsToldApplied m a → row_texts row ≡ decimal a.actor ∷ decimal a.entry ∷ message_word a.message
+      ∷ moment_word a.moment ∷ [] → applied_line m row ≡ Ok (item.Applied a)
   unfolding applied_line
   applied-again row a h e =
       word_on (below-law m.nodes nodes) row a.actor _ h.actor e _ _ (λ r1 e1.
@@ -209,10 +270,12 @@ module _ (m : Machine) (small : IsSmall m) where
       let t_over = nothing-law.takes (space.1) over over-is in
       let value : item.Switch (record { actor = actor.0; space = space.0 }) ≡ i = ok_is _ i e3 in
       let words : row_texts row ≡ decimal actor.0 ∷ decimal space.0 ∷ [] =
-      t_actor.0 ∙ ap (λ (k : List (List ℕ)). decimal actor.0 ∷ k) (t_space.0 ∙ ap (λ (k : List (List ℕ)). decimal space.0 ∷ k) (t_over.0)) in
+      t_actor.0 ∙ ap (λ (k : List (List ℕ)). decimal actor.0 ∷ k)
+      (t_space.0 ∙ ap (λ (k : List (List ℕ)). decimal space.0 ∷ k) (t_over.0)) in
       rw (← value) (ap (λ (k : List (List ℕ)). codes "switch" ∷ k) words, record { actor = t_actor.1; space = t_space.1.1 }))))
 
-  switch-again : (row : Row) (s : Switch) → IsToldSwitch m s → row_texts row ≡ decimal s.actor ∷ decimal s.space ∷ [] → switch_line m row ≡ Ok (item.Switch s)
+  switch-again : (row : Row) (s : Switch) → IsToldSwitch m s → row_texts row ≡ decimal s.actor ∷ decimal s.space ∷ [] →
+      switch_line m row ≡ Ok (item.Switch s)
   unfolding switch_line
   switch-again row s h e =
       word_on (below-law m.nodes nodes) row s.actor _ h.actor e _ _ (λ r1 e1.
@@ -228,13 +291,17 @@ module _ (m : Machine) (small : IsSmall m) where
 
   item-again : (row : Row) (i : Item) → IsTold m i → row_texts row ≡ item_words i → (j : Item) × (item_line m row ≡ Ok j) × (j ≡ i)
   unfolding item_line access_words change_words applied_words switch_words
-  item-again row (item.Access a) h e = choice-again (λ i. i) item_words (IsTold m) (item_kinds m) Expected row (item.Access a) (codes "access") _ e
+  item-again row (item.Access a) h e =
+      choice-again (λ i. i) item_words (IsTold m) (item_kinds m) Expected row (item.Access a) (codes "access") _ e
       (λ fault after t. (item.Access a, access-again after a h t, refl))
-  item-again row (item.Change c) h e = choice-again (λ i. i) item_words (IsTold m) (item_kinds m) Expected row (item.Change c) (codes "change") _ e
+  item-again row (item.Change c) h e =
+      choice-again (λ i. i) item_words (IsTold m) (item_kinds m) Expected row (item.Change c) (codes "change") _ e
       (λ fault after t. (item.Change c, change-again after c h t, refl))
-  item-again row (item.Applied a) h e = choice-again (λ i. i) item_words (IsTold m) (item_kinds m) Expected row (item.Applied a) (codes "applied") _ e
+  item-again row (item.Applied a) h e = choice-again (λ i. i) item_words (IsTold m) (item_kinds m) Expected row (item.Applied a)
+      (codes "applied") _ e
       (λ fault after t. (item.Applied a, applied-again after a h t, refl))
-  item-again row (item.Switch s) h e = choice-again (λ i. i) item_words (IsTold m) (item_kinds m) Expected row (item.Switch s) (codes "switch") _ e
+  item-again row (item.Switch s) h e =
+      choice-again (λ i. i) item_words (IsTold m) (item_kinds m) Expected row (item.Switch s) (codes "switch") _ e
       (λ fault after t. (item.Switch s, switch-again after s h t, refl))
 
   pub item-law : IsTail (item_line m) (λ i. i) item_words (IsTold m)

@@ -20,7 +20,8 @@ module _ (m : Machine) (n i : ℕ) (seen : List Item) (rest : Rest) (inside : i 
   unfolding items_from
   items-more row after item r e = rw (counted n i inside, r, e) refl
 
-  pub items-wrong : (row : Row) (after : Rest) (fault : Refused) → row_at rest ≡ Ok (row, after) → item_line m row ≡ Err fault → items_from m (n - i) seen rest ≡ Err fault
+  pub items-wrong : (row : Row) (after : Rest) (fault : Refused) → row_at rest ≡ Ok (row, after) → item_line m row ≡ Err fault →
+      items_from m (n - i) seen rest ≡ Err fault
   unfolding items_from
   items-wrong row after fault r e = rw (counted n i inside, r, e) refl
 

@@ -24,7 +24,8 @@ use Rattle.plat_base.specs.declared.endings.End.TheVariants as end
 use Rattle.plat_base.specs.Report.{end_word}
 use Rattle.plat_text.proofs.Results.{ok_is}
 use Rattle.plat_text.proofs.WordLaws.{IsWordForm}
-use Rattle.plat_grammar.specs.HistoryCanon.{kind_word, cause_word, action_word, removed_word, message_word, moment_word, right_word, head_word}
+use Rattle.plat_grammar.specs.HistoryCanon.{kind_word, cause_word, action_word, removed_word, message_word, moment_word, right_word}
+use Rattle.plat_grammar.specs.HistoryCanon.{head_word}
 use Rattle.plat_grammar.specs.HistoryForms.{named, kinds, causes, actions, removals, messages, moments, rights, endings, heads}
 
 -- any value may stand there
@@ -32,14 +33,16 @@ abbrev pub Any : {A : Type 0} → A → Type 0
 Any x = Unit {0}
 
 module _ {A : Type 0} (spell : A → List ℕ) where
-  named-takes : (names : List (List ℕ × A)) (w : List ℕ) (x : A) → AllByRecursion (λ n. n.0 ≡ spell n.1) names → named names w ≡ Ok x → w ≡ spell x
+  named-takes : (names : List (List ℕ × A)) (w : List ℕ) (x : A) → AllByRecursion (λ n. n.0 ≡ spell n.1) names → named names w ≡ Ok x →
+      w ≡ spell x
   named-takes [] w x h e = cc
   named-takes (n ∷ ns) w x h e = ⊎_elim
       (λ t. let value : n.1 ≡ x = ok_is n.1 x (rw t at e) in (bytes_eq-Decides w n.0).0 t ∙ h.0 ∙ ap spell value)
       (λ t. named-takes ns w x h.1 (rw t at e))
       (cases_Bool (bytes_eq w n.0))
 
-  named-law : (names : List (List ℕ × A)) → AllByRecursion (λ n. n.0 ≡ spell n.1) names → ((x : A) → named names (spell x) ≡ Ok x) → IsWordForm (named names) spell Any
+  named-law : (names : List (List ℕ × A)) → AllByRecursion (λ n. n.0 ≡ spell n.1) names → ((x : A) → named names (spell x) ≡ Ok x) →
+      IsWordForm (named names) spell Any
   named-law names h again = record {
     takes = λ w x e. (named-takes names w x h e, tt);
     again = λ x _. again x;

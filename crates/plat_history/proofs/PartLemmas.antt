@@ -1,5 +1,6 @@
 -- one step of the reading of a list of frames
-use Rattle.std.proofs.Common.{◌≡◌, ℕ, ◌+◌, ◌<◌, ◌≤◌, Bool, true, false, ltb, eqb, List, [], ◌∷◌, ◌++◌, length, take, drop, Option, Some, None, Ok, Err, refl, ap, sym, ◌∙◌, arith}
+use Rattle.std.proofs.Common.{◌≡◌, ℕ, ◌+◌, ◌<◌, ◌≤◌, Bool, true, false, ltb, eqb, List, [], ◌∷◌, ◌++◌, length, take, drop, Option, Some}
+use Rattle.std.proofs.Common.{None, Ok, Err, refl, ap, sym, ◌∙◌, arith}
 use Rattle.std.specs.List.{list_all, slice_split, position, position_or_len, before_first, after_first}
 use Rattle.std.proofs.lemmas.Bool.Decides.{nat_tests}
 use Rattle.std.proofs.lemmas.List.Splits.{slice_split_first}
@@ -47,7 +48,8 @@ cut-none byte word e = by_place (position (is_byte byte) word) refl e where
 
 -- ---- the parts of a list
 
-pub parts-more : (list before after : List ℕ) → Some (before, after) ≡ cut comma list → slice_split (is_byte comma) list ≡ before ∷ slice_split (is_byte comma) after
+pub parts-more : (list before after : List ℕ) → Some (before, after) ≡ cut comma list →
+    slice_split (is_byte comma) list ≡ before ∷ slice_split (is_byte comma) after
 parts-more list before after e =
     let t = cut-some comma list before after (sym e) in
     rw (t.first, t.rest) (slice_split_first (is_byte comma) list 0 t.inside)
@@ -75,7 +77,8 @@ are_below-push : (low : ℕ) (f : Frame) (fs : List Frame) → f.module < low �
 are_below-push low f [] k h = grind (arith, nat_tests)
 are_below-push low f (g ∷ gs) k h = grind (arith, nat_tests, are_below-push low f gs)
 
-pub are_below-more : (low : ℕ) (f : Frame) (fs : List Frame) → low ≤ f.module → are_below low fs ≡ true → are_below (f.module + 1) (fs ++ f ∷ []) ≡ true
+pub are_below-more : (low : ℕ) (f : Frame) (fs : List Frame) → low ≤ f.module → are_below low fs ≡ true →
+    are_below (f.module + 1) (fs ++ f ∷ []) ≡ true
 are_below-more low f fs k h = are_below-push (f.module + 1) f fs (omega arith) (are_below-higher low (f.module + 1) fs (omega (arith, k)) h)
 
 -- a frame above all others comes last
@@ -92,7 +95,8 @@ module _ (nodes frames low : ℕ) (seen : List Frame) where
     unfolding copies_from
     copies-wrong why e = rw (is, ← e) refl
 
-    pub copies-low : (f : Frame) → Ok f ≡ frame_of nodes frames part → f.module < low → copies_from nodes frames low seen list ≡ Err Expected
+    pub copies-low : (f : Frame) → Ok f ≡ frame_of nodes frames part → f.module < low → copies_from nodes frames low seen list
+        ≡ Err Expected
     unfolding copies_from
     copies-low f e k = let t : ltb f.module low ≡ true = grind (arith, nat_tests) in rw (is, ← e, t) refl
 

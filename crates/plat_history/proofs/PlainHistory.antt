@@ -1,5 +1,6 @@
 -- the words of a canonical history text are plain, so the text is read as its history again
-use Rattle.std.proofs.Common.{◌≡◌, ℕ, ◌+◌, ◌^◌, ◌<◌, ◌≤◌, Bool, true, false, List, [], ◌∷◌, ◌++◌, length, map, Option, Some, None, Ok, codes, refl, ◌∙◌, arith}
+use Rattle.std.proofs.Common.{◌≡◌, ℕ, ◌+◌, ◌^◌, ◌<◌, ◌≤◌, Bool, true, false, List, [], ◌∷◌, ◌++◌, length, map, Option, Some, None, Ok}
+use Rattle.std.proofs.Common.{codes, refl, ◌∙◌, arith}
 use Rattle.std.specs.List.{AllByRecursion, list_all, join_with_byte}
 use Rattle.std.specs.Fmt.{decimal}
 use Rattle.std.proofs.lemmas.Bool.{and_parts, and_from}
@@ -36,9 +37,13 @@ use Rattle.plat_base.specs.declared.items.Item.TheVariants as item
 use Rattle.plat_base.specs.declared.endings.End.{End}
 use Rattle.plat_base.specs.declared.endings.End.TheVariants as end
 use Rattle.plat_base.specs.declared.endings.Ended.{Ended}
-use Rattle.plat_grammar.specs.HistoryCanon.{History, point, comma, frame_word, grant_word, head_word, copies_part, dir_word, kind_word, cause_word, action_word, removed_word, message_word, moment_word, right_word, access_words, change_words, applied_words, switch_words, item_words, ended_lines, told_lines, canon_history, history_text}
+use Rattle.plat_grammar.specs.HistoryCanon.{History, point, comma, frame_word, grant_word, head_word, copies_part, dir_word, kind_word}
+use Rattle.plat_grammar.specs.HistoryCanon.{cause_word, action_word, removed_word, message_word, moment_word, right_word, access_words}
+use Rattle.plat_grammar.specs.HistoryCanon.{change_words, applied_words, switch_words, item_words, ended_lines, told_lines, canon_history}
+use Rattle.plat_grammar.specs.HistoryCanon.{history_text}
 use Rattle.plat_grammar.specs.HistoryFaults.{history_at}
-use Rattle.plat_grammar.specs.HistoryGrammar.{are_frames, is_told_dir, is_told_grant, IsToldAccess, IsToldChange, IsToldApplied, IsToldSwitch, IsTold, IsToldEnd, IsHistory, IsHistoryTextOf, IsShortHistory}
+use Rattle.plat_grammar.specs.HistoryGrammar.{are_frames, is_told_dir, is_told_grant, IsToldAccess, IsToldChange, IsToldApplied}
+use Rattle.plat_grammar.specs.HistoryGrammar.{IsToldSwitch, IsTold, IsToldEnd, IsHistory, IsHistoryTextOf, IsShortHistory}
 use Rattle.plat_text.proofs.PlainLaws.{is_plain, IsPlain, IsPlainLine, all-append, plain-cons, decimal-digits, decimal-plain, lines-again}
 use Rattle.plat_machine.proofs.PlainCanon.{canon-plain}
 use Rattle.plat_history.proofs.PartLaws.{frame_parts, translation-numbers}
@@ -131,7 +136,8 @@ module _ (m : Machine) (small : IsSmall m) where
       bytes-append (decimal f.module) (point ∷ decimal f.number) (decimal-digits f.module (omega (arith, parts.0, nodes)))
       (bytes-append (point ∷ []) (decimal f.number) refl (decimal-digits f.number (omega (arith, parts.1, frames))))
 
-  joined-bytes : (f : Frame) (fs : List Frame) → list_all (is_frame m) (f ∷ fs) ≡ true → list_all is_plain (join_with_byte comma (map frame_word (f ∷ fs))) ≡ true
+  joined-bytes : (f : Frame) (fs : List Frame) → list_all (is_frame m) (f ∷ fs) ≡ true →
+      list_all is_plain (join_with_byte comma (map frame_word (f ∷ fs))) ≡ true
   joined-bytes f [] h = frame-bytes f (and_parts (is_frame m f) true h).0
   joined-bytes f (g ∷ gs) h =
       let parts = and_parts (is_frame m f) (list_all (is_frame m) (g ∷ gs)) h in
@@ -143,7 +149,8 @@ module _ (m : Machine) (small : IsSmall m) where
   copies-bytes (f ∷ fs) h = joined-bytes f fs (and_parts (list_all (is_frame m) (f ∷ fs)) (modules_rise 0 (f ∷ fs)) h).0
 
   dir-plain : (d : Dir) → is_told_dir m d ≡ true → IsPlain (dir_word d)
-  dir-plain d h = plain-append (head_word (d.state, d.frozen)) (copies_part d.copies) (head-plain d.state d.frozen) (copies-bytes d.copies h)
+  dir-plain d h = plain-append (head_word (d.state, d.frozen)) (copies_part d.copies) (head-plain d.state d.frozen)
+      (copies-bytes d.copies h)
 
   grant-plain : (g : Option Grant) → is_told_grant m g ≡ true → IsPlain (grant_word g)
   grant-plain None h = refl
@@ -258,7 +265,8 @@ module _ (m : Machine) (small : IsSmall m) where
 
   switch-plain : (s : Switch) → IsToldSwitch m s → IsPlainLine (switch_words s)
   unfolding switch_words
-  switch-plain s h = (refl, (refl, (decimal-plain s.actor (omega (arith, h.actor, nodes)), (decimal-plain s.space (omega (arith, h.space)), tt))))
+  switch-plain s h =
+      (refl, (refl, (decimal-plain s.actor (omega (arith, h.actor, nodes)), (decimal-plain s.space (omega (arith, h.space)), tt))))
 
   item-plain : (i : Item) → IsTold m i → IsPlainLine (item_words i)
   item-plain (item.Access a) h = access-plain a h
@@ -282,12 +290,16 @@ history-plain h fits =
     let m = h.machine in
     let small = small-from m fits.machine fits.short in
     let few : 0 + length h.ends < 2 ^ 32 = omega (arith, fits.numbers.count, small.nodes) in
-    let count : IsPlainLine (codes "items" ∷ decimal (length h.items) ∷ []) = (refl, (refl, (decimal-plain (length h.items) (omega (arith, fits.numbers.few)), tt))) in (
+    let count : IsPlainLine (codes "items" ∷ decimal (length h.items) ∷ []) =
+    (refl, (refl, (decimal-plain (length h.items) (omega (arith, fits.numbers.few)), tt))) in (
       (refl, (refl, (refl, tt))),
       all-append IsPlainLine (canon m) (told_lines h.items h.ends) (canon-plain m fits.machine) (
         count,
-        all-append IsPlainLine (map item_words h.items) _ (items-plain m small h.items fits.numbers.items)
-            ((refl, (refl, tt)), all-append IsPlainLine (ended_lines 0 h.ends) _ (ends-plain 0 h.ends few fits.numbers.ends) ((refl, (refl, tt)), tt)),
+        all-append IsPlainLine (map item_words h.items) _ (items-plain m small h.items fits.numbers.items) (
+          (refl, (refl, tt)),
+          all-append IsPlainLine (ended_lines 0 h.ends) _ (ends-plain 0 h.ends few fits.numbers.ends)
+              ((refl, (refl, tt)), tt),
+        ),
       ),
     )
 

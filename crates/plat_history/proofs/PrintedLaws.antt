@@ -13,8 +13,10 @@ module _ (cfg : Config) (items : List Item) (ends : List Ended) where
   history_of : IsInRange (history cfg items ends) → IsHistory (history cfg items ends)
   history_of numbers = record { machine = cfg.limits; short = cfg.short; numbers = numbers }
 
-  pub printed-text : IsInRange (history cfg items ends) → IsShortHistory (history cfg items ends) → IsHistoryTextOf (history_text (history cfg items ends)) (history cfg items ends)
+  pub printed-text : IsInRange (history cfg items ends) → IsShortHistory (history cfg items ends) →
+      IsHistoryTextOf (history_text (history cfg items ends)) (history cfg items ends)
   printed-text numbers short = history_text-is_text (history cfg items ends) (history_of numbers) short
 
-  pub printed-again : IsInRange (history cfg items ends) → IsShortHistory (history cfg items ends) → history_at (history_text (history cfg items ends)) ≡ Ok (history cfg items ends)
+  pub printed-again : IsInRange (history cfg items ends) → IsShortHistory (history cfg items ends) →
+      history_at (history_text (history cfg items ends)) ≡ Ok (history cfg items ends)
   printed-again numbers short = history_text-again (history cfg items ends) (history_of numbers) short

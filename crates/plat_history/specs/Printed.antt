@@ -10,4 +10,5 @@ unfoldable pub change_front : Change → List ℕ
 change_front c =
     codes "change"
     ++ flat_map (λ v. 32 ∷ v)
-    (decimal c.actor ∷ decimal c.page ∷ decimal c.seq ∷ decimal c.time ∷ cause_word c.cause ∷ action_word c.action ∷ removed_word c.removed ∷ [])
+    (decimal c.actor ∷ decimal c.page ∷ decimal c.seq ∷ decimal c.time ∷ cause_word c.cause ∷ action_word c.action ∷ removed_word c.removed
+    ∷ [])

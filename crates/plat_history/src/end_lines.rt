@@ -40,7 +40,8 @@ fn end(row: &mut Row<'_>) -> Result<End, Refused>
 /// Reads the line of a processor.
 #[tactic(auto, unfolding(plat_grammar::specs::HistoryForms::ended_line))]
 fn ended(rows: &mut Rows<'_>, q: u32) -> Result<Ended, Refused>
-    ensures { Reads (λ ended. (ended, rows.new)) result (line_at (codes "processor") (ended_line q) rows.old) }
+    ensures { Reads (λ ended. (ended, rows.new)) result
+        (line_at (codes "processor") (ended_line q) rows.old) }
 {
     let mut row = rows.row_with(b"processor")?;
     node(&mut row, q)?;

@@ -3,7 +3,8 @@ ghost use Rattle.std.specs.Prelude.{◌≡◌, length};
 ghost use Rattle.plat_base.specs.Machine.{Machine};
 ghost use Rattle.plat_base.specs.Seen.{machine};
 ghost use Rattle.plat_grammar.specs.Forms.{Reads, one, number_below};
-ghost use Rattle.plat_grammar.specs.HistoryForms.{named, kinds, causes, actions, removals, messages, moments, granted_of, dir_of, access_line, change_line, applied_line, switch_line, item_line};
+ghost use Rattle.plat_grammar.specs.HistoryForms.{named, kinds, causes, actions, removals, messages, moments, granted_of, dir_of};
+ghost use Rattle.plat_grammar.specs.HistoryForms.{access_line, change_line, applied_line, switch_line, item_line};
 
 use crate::directories::{read_dir, read_granted};
 use crate::names::{read_action, read_cause, read_kind, read_message, read_moment, read_removed};
@@ -71,7 +72,8 @@ fn dir(row: &mut Row<'_>, cfg: &Config) -> Result<Dir, Refused>
 }
 
 fn granted(row: &mut Row<'_>, cfg: &Config) -> Result<Option<Grant>, Refused>
-    ensures { Reads (λ granted. (granted, row.new)) result (one (granted_of (length cfg.now.entries.items) cfg.now.nodes cfg.now.frames) row.old) }
+    ensures { Reads (λ granted. (granted, row.new)) result
+        (one (granted_of (length cfg.now.entries.items) cfg.now.nodes cfg.now.frames) row.old) }
 {
     let line = row.line();
     let found = row.next_word()?;
@@ -92,7 +94,8 @@ fn read_entry(word: &[u8], entries: usize) -> Result<u32, Why>
 
 /// The number of an entry.
 fn entry(row: &mut Row<'_>, cfg: &Config) -> Result<u32, Refused>
-    ensures { Reads (λ entry. (entry, row.new)) result (one (number_below (length cfg.now.entries.items)) row.old) }
+    ensures { Reads (λ entry. (entry, row.new)) result
+        (one (number_below (length cfg.now.entries.items)) row.old) }
 {
     let line = row.line();
     let found = row.next_word()?;

@@ -3,7 +3,8 @@ ghost use Rattle.std.specs.Prelude.{◌≡◌, ◌∷◌, ◌++◌, [], map, len
 ghost use Rattle.std.specs.List.{flat_map};
 ghost use Rattle.plat_base.specs.Canon.{number_line};
 ghost use Rattle.plat_base.specs.Seen.{machine};
-ghost use Rattle.plat_grammar.specs.HistoryCanon.{History, access_words, change_words, applied_words, switch_words, item_words, ended_words, ended_lines, told_lines, canon_history, history_text};
+ghost use Rattle.plat_grammar.specs.HistoryCanon.{History, access_words, change_words, applied_words, switch_words, item_words};
+ghost use Rattle.plat_grammar.specs.HistoryCanon.{ended_words, ended_lines, told_lines, canon_history, history_text};
 ghost use Rattle.plat_grammar.specs.HistoryFaults.{history_at};
 ghost use Rattle.plat_grammar.specs.HistoryGrammar.{IsInRange, IsShortHistory, IsHistoryTextOf};
 ghost use Rattle.plat_io.specs.Adds.{Adds};
@@ -183,7 +184,8 @@ pub fn print_items<K: Sink>(
     ends: &[Ended],
     sink: &mut K,
 ) -> Result<(), WriteFault>
-    ensures written { Adds K.Sink sink.old sink.new result (history_text (history cfg.now items.now ends.now)) }
+    ensures written { Adds K.Sink sink.old sink.new result
+        (history_text (history cfg.now items.now ends.now)) }
     // This text is in the grammar of the history, where its numbers are in range and it is not too long.
     ensures text { let h = history cfg.now items.now ends.now in
         IsInRange h → IsShortHistory h → IsHistoryTextOf (history_text h) h }

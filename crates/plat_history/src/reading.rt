@@ -31,7 +31,8 @@ fn version(rows: &mut Rows<'_>) -> Result<(), Refused>
 }
 
 fn count(rows: &mut Rows<'_>) -> Result<u32, Refused>
-    ensures reads { Reads (λ n. (n, rows.new)) result (line_at (codes "items") (number_line 0 most_items) rows.old) }
+    ensures reads { Reads (λ n. (n, rows.new)) result
+        (line_at (codes "items") (number_line 0 most_items) rows.old) }
     ensures few { IfOk result (λ n. n ≤ 2621440) }
 {
     let mut row = rows.row_with(b"items")?;
@@ -58,7 +59,8 @@ fn read_items(
     count: u32,
     bytes: usize,
 ) -> Result<List<Item>, TextFault>
-    ensures reads { Gives (λ list. (list.items, rows.new)) result (items_from (machine cfg.now) count [] rows.old) }
+    ensures reads { Gives (λ list. (list.items, rows.new)) result
+        (items_from (machine cfg.now) count [] rows.old) }
     ensures count { IfOk result (λ list. length list.items ≡ count) }
 {
     let room = (bytes / SHORTEST_ITEM).min(count as usize);

@@ -1,7 +1,8 @@
 //! Words that each name one value, as they are written.
 ghost use Rattle.std.specs.Prelude.{◌≡◌};
 ghost use Rattle.plat_base.specs.Report.{end_word};
-ghost use Rattle.plat_grammar.specs.HistoryCanon.{kind_word, cause_word, action_word, removed_word, message_word, moment_word, right_word, head_word};
+ghost use Rattle.plat_grammar.specs.HistoryCanon.{kind_word, cause_word, action_word, removed_word, message_word, moment_word, right_word};
+ghost use Rattle.plat_grammar.specs.HistoryCanon.{head_word};
 
 use plat_base::{Action, Cause, End, Kind, Message, Moment, Removed, Right, State};
 

@@ -1,5 +1,6 @@
 -- lines of words that are written one after another
-use Rattle.std.proofs.Common.{◌≡◌, ℕ, ◌+◌, ◌<◌, ◌≤◌, ◌||◌, Bool, List, [], ◌∷◌, ◌++◌, map, length, take, drop, get_or, Option, zero-add, arith, refl, sym, ap, ◌∙◌}
+use Rattle.std.proofs.Common.{◌≡◌, ℕ, ◌+◌, ◌<◌, ◌≤◌, ◌||◌, Bool, List, [], ◌∷◌, ◌++◌, map, length, take, drop, get_or, Option, zero-add}
+use Rattle.std.proofs.Common.{arith, refl, sym, ap, ◌∙◌}
 use Rattle.std.specs.List.{flat_map, range_with_len}
 use Rattle.std.specs.Fmt.{decimal}
 use Rattle.std.proofs.lemmas.List.{append_assoc, append-nil, take-append-drop, take_all, take_more, drop_more, map-append}
@@ -46,38 +47,48 @@ text-append ls ms = flat_map-append line_bytes ls ms
 pub added_lines : (held : Option (List ℕ)) (ls ms : List Words) → added held (text (ls ++ ms)) ≡ added (added held (text ls)) (text ms)
 added_lines held ls ms = ap (added held) (text-append ls ms) ∙ added_append held (text ls) (text ms)
 
-pub added_line : (held : Option (List ℕ)) (l : Words) (ls : List Words) → added held (text (l ∷ ls)) ≡ added (added held (text (l ∷ []))) (text ls)
+pub added_line : (held : Option (List ℕ)) (l : Words) (ls : List Words) →
+    added held (text (l ∷ ls)) ≡ added (added held (text (l ∷ []))) (text ls)
 added_line held l ls = added_lines held (l ∷ []) ls
 
 pub added_no_line : (held : Option (List ℕ)) → added held (text []) ≡ held
 unfolding text
 added_no_line held = added_none held
 
-pub is_part_lines : (held : Option (List ℕ)) (ls ms : List Words) (now : Option (List ℕ)) → is_part held (text (ls ++ ms)) now ≡ (is_part held (text ls) now || is_part (added held (text ls)) (text ms) now)
+pub is_part_lines : (held : Option (List ℕ)) (ls ms : List Words) (now : Option (List ℕ)) → is_part held (text (ls ++ ms)) now
+    ≡ (is_part held (text ls) now || is_part (added held (text ls)) (text ms) now)
 is_part_lines held ls ms now = rw text-append (is_part_append held (text ls) (text ms) now)
 
-pub is_part_line : (held : Option (List ℕ)) (l : Words) (ls : List Words) (now : Option (List ℕ)) → is_part held (text (l ∷ ls)) now ≡ (is_part held (text (l ∷ [])) now || is_part (added held (text (l ∷ []))) (text ls) now)
+pub is_part_line : (held : Option (List ℕ)) (l : Words) (ls : List Words) (now : Option (List ℕ)) →
+    is_part held (text (l ∷ ls)) now ≡ (is_part held (text (l ∷ [])) now || is_part (added held (text (l ∷ []))) (text ls) now)
 is_part_line held l ls now = is_part_lines held (l ∷ []) ls now
 
 pub ruleset lines = (added_lines, added_line, added_no_line, is_part_lines, is_part_line)
 
 -- ---- lines that are written in a loop
 
-pub flat_map_cut : {X : Type 0} (f : X → List Words) (xs : List X) (i : ℕ) → (flat_map f (take i xs) ≡ flat_map f (take i xs)) × (flat_map f xs ≡ flat_map f (take i xs) ++ flat_map f (drop i xs))
+pub flat_map_cut : {X : Type 0} (f : X → List Words) (xs : List X) (i : ℕ) → (flat_map f (take i xs) ≡ flat_map f (take i xs))
+    × (flat_map f xs ≡ flat_map f (take i xs) ++ flat_map f (drop i xs))
 flat_map_cut {X} f xs i = (refl, ap (flat_map f) (sym (take-append-drop i xs)) ∙ flat_map-append f (take i xs) (drop i xs))
 
-pub map_cut : {X : Type 0} (f : X → Words) (xs : List X) (i : ℕ) → (map f (take i xs) ≡ map f (take i xs)) × (map f xs ≡ map f (take i xs) ++ map f (drop i xs))
+pub map_cut : {X : Type 0} (f : X → Words) (xs : List X) (i : ℕ) → (map f (take i xs) ≡ map f (take i xs))
+    × (map f xs ≡ map f (take i xs) ++ map f (drop i xs))
 map_cut {X} f xs i = (refl, ap (map f) (sym (take-append-drop i xs)) ∙ map-append f (take i xs) (drop i xs))
 
 pub ruleset looped_lines = (lines, flat_map_cut, map_cut, flat_map-append, map-append, append-nil, take_at_read, drop_at_read, take_all)
 
 -- ---- lines that are written in a loop that counts up from 0
 
-pub range_at : (n q : ℕ) → q < n → (take q (range_with_len 0 n) ≡ take q (range_with_len 0 n)) × (take (q + 1) (range_with_len 0 n) ≡ take q (range_with_len 0 n) ++ q ∷ []) × (drop q (range_with_len 0 n) ≡ q ∷ drop (q + 1) (range_with_len 0 n))
+pub range_at : (n q : ℕ) → q < n → (take q (range_with_len 0 n) ≡ take q (range_with_len 0 n))
+    × (take (q + 1) (range_with_len 0 n) ≡ take q (range_with_len 0 n) ++ q ∷ [])
+    × (drop q (range_with_len 0 n) ≡ q ∷ drop (q + 1) (range_with_len 0 n))
 range_at n q h =
     let here : get_or (range_with_len 0 n) q 0 ≡ q = get_or-range_with_len 0 n q 0 h ∙ zero-add q in
-    let within : q < length (range_with_len 0 n) = omega (arith, length-range_with_len 0 n) in
-    (refl, take_more (range_with_len 0 n) q 0 within ∙ ap (λ (x : ℕ). take q (range_with_len 0 n) ++ x ∷ []) here, drop_more (range_with_len 0 n) q 0 within ∙ ap (λ (x : ℕ). x ∷ drop (q + 1) (range_with_len 0 n)) here)
+    let within : q < length (range_with_len 0 n) = omega (arith, length-range_with_len 0 n) in (
+      refl,
+      take_more (range_with_len 0 n) q 0 within ∙ ap (λ (x : ℕ). take q (range_with_len 0 n) ++ x ∷ []) here,
+      drop_more (range_with_len 0 n) q 0 within ∙ ap (λ (x : ℕ). x ∷ drop (q + 1) (range_with_len 0 n)) here,
+    )
 
 pub take_range : (n q : ℕ) → n ≤ q → take q (range_with_len 0 n) ≡ range_with_len 0 n
 take_range n q h = take_all q (range_with_len 0 n) (omega (arith, length-range_with_len 0 n))

@@ -1,5 +1,6 @@
 -- bytes that are read one piece after another
-use Rattle.std.proofs.Common.{◌≡◌, ◌≢◌, ℕ, ◌≤◌, ◌+◌, List, [], ◌++◌, length, take, drop, Option, Some, None, IfSome, IsErrOf, IsErrAnd, Result, Ok, Err, refl, sym, ap, ◌∙◌, arith, append_assoc, length-append, length-take, length-drop}
+use Rattle.std.proofs.Common.{◌≡◌, ◌≢◌, ℕ, ◌≤◌, ◌+◌, List, [], ◌++◌, length, take, drop, Option, Some, None, IfSome, IsErrOf, IsErrAnd}
+use Rattle.std.proofs.Common.{Result, Ok, Err, refl, sym, ap, ◌∙◌, arith, append_assoc, length-append, length-take, length-drop}
 use Rattle.std.proofs.lemmas.List.{drop_at, append-nil, take-append-le}
 use Rattle.plat_io.specs.Streams.{preceded, IsAtEnd}
 use Rattle.plat_io.specs.Takes.{TakesCount, TakesWithin}
@@ -21,10 +22,12 @@ preceded_none (Some xs) = refl
 pub same_left : (items : List ℕ) (old mid new : Option (List ℕ)) → old ≡ preceded items mid → new ≡ mid → old ≡ preceded items new
 same_left items old mid new e h = rw h e
 
-pub nothing_read : (items buf : List ℕ) (n : ℕ) (old mid new : Option (List ℕ)) → old ≡ preceded items mid → mid ≡ preceded (take n buf) new → n ≡ 0 → old ≡ preceded items new
+pub nothing_read : (items buf : List ℕ) (n : ℕ) (old mid new : Option (List ℕ)) → old ≡ preceded items mid →
+    mid ≡ preceded (take n buf) new → n ≡ 0 → old ≡ preceded items new
 nothing_read items buf n old mid new e h z = e ∙ ap (preceded items) (h ∙ (ap (λ (m : ℕ). preceded (take m buf) new) z ∙ preceded_none new))
 
-pub more_read : (items piece : List ℕ) (old mid new : Option (List ℕ)) → old ≡ preceded items mid → mid ≡ preceded piece new → old ≡ preceded (items ++ piece) new
+pub more_read : (items piece : List ℕ) (old mid new : Option (List ℕ)) → old ≡ preceded items mid → mid ≡ preceded piece new →
+    old ≡ preceded (items ++ piece) new
 more_read items piece old mid new e h = e ∙ (ap (preceded items) h ∙ sym (preceded_append items piece new))
 
 -- ---- how much is taken
@@ -38,15 +41,18 @@ TakesCount-preceded : (bytes : List ℕ) (old new : Option (List ℕ)) → old �
 TakesCount-preceded bytes old new e = rw e (takes (length bytes) bytes new refl)
 
 -- a reading that stops in time, and one that takes one byte too many
-pub TakesWithin-stopped : {T : Type 0} (limit : ℕ) (bytes : List ℕ) (old new : Option (List ℕ)) (result : Result T ReadStop) → old ≡ preceded bytes new → length bytes ≤ limit → (IsErrOf result stop.TooLong → ⊥) → TakesWithin limit old new result
+pub TakesWithin-stopped : {T : Type 0} (limit : ℕ) (bytes : List ℕ) (old new : Option (List ℕ)) (result : Result T ReadStop) →
+    old ≡ preceded bytes new → length bytes ≤ limit → (IsErrOf result stop.TooLong → ⊥) → TakesWithin limit old new result
 TakesWithin-stopped limit bytes old new result e short other =
     (length bytes, TakesCount-preceded bytes old new e, omega arith, (λ h. absurd (other h), λ h. absurd (omega arith)))
 
-pub TakesWithin-too_long : {T : Type 0} (limit : ℕ) (bytes : List ℕ) (old new : Option (List ℕ)) (result : Result T ReadStop) → old ≡ preceded bytes new → length bytes ≡ limit + 1 → IsErrOf result stop.TooLong → TakesWithin limit old new result
+pub TakesWithin-too_long : {T : Type 0} (limit : ℕ) (bytes : List ℕ) (old new : Option (List ℕ)) (result : Result T ReadStop) →
+    old ≡ preceded bytes new → length bytes ≡ limit + 1 → IsErrOf result stop.TooLong → TakesWithin limit old new result
 TakesWithin-too_long limit bytes old new result e long is =
     (length bytes, TakesCount-preceded bytes old new e, omega arith, (λ _. long, λ _. is))
 
-pub not_too_long : {T : Type 0} (result : Result T ReadStop) (fault : ReadStop) → fault ≢ stop.TooLong → IsErrAnd result (λ e. e ≡ fault) → IsErrOf result stop.TooLong → ⊥
+pub not_too_long : {T : Type 0} (result : Result T ReadStop) (fault : ReadStop) → fault ≢ stop.TooLong → IsErrAnd result (λ e. e ≡ fault) →
+    IsErrOf result stop.TooLong → ⊥
 not_too_long (Ok x) fault d h k = absurd cc
 not_too_long (Err e) fault d h k = d (cc)
 
@@ -68,11 +74,14 @@ length_read items buf n h = grind (arith, length-append, length-take)
 pub length-lent : (chunk lent : List ℕ) (room : ℕ) → length lent ≡ length (take room chunk) → length lent ≤ room
 length-lent chunk lent room h = omega (arith, length-take room chunk)
 
-pub length-rejoined : (chunk lent : List ℕ) (room : ℕ) → length lent ≡ length (take room chunk) → length (lent ++ drop room chunk) ≡ length chunk
+pub length-rejoined : (chunk lent : List ℕ) (room : ℕ) → length lent ≡ length (take room chunk) →
+    length (lent ++ drop room chunk) ≡ length chunk
 length-rejoined chunk lent room h = omega (arith, length-take room chunk, length-drop room chunk, length-append lent (drop room chunk))
 
-pub pushed : (items reserved now buf rest : List ℕ) (n : ℕ) → n ≤ length buf → reserved ≡ items → now ≡ reserved ++ take n (buf ++ rest) → now ≡ items ++ take n buf
-pushed items reserved now buf rest n h e k = k ∙ (ap (λ (xs : List ℕ). reserved ++ xs) (take-append-le n buf rest h) ∙ ap (λ (xs : List ℕ). xs ++ take n buf) e)
+pub pushed : (items reserved now buf rest : List ℕ) (n : ℕ) → n ≤ length buf → reserved ≡ items → now ≡ reserved ++ take n (buf ++ rest) →
+    now ≡ items ++ take n buf
+pushed items reserved now buf rest n h e k = k
+    ∙ (ap (λ (xs : List ℕ). reserved ++ xs) (take-append-le n buf rest h) ∙ ap (λ (xs : List ℕ). xs ++ take n buf) e)
 
 -- ---- all that is left
 

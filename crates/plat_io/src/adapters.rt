@@ -49,7 +49,8 @@ impl<R: Read> Source for StdSource<R> {
         ensures count { self.old.faults ≤ self.new.faults }
         ensures failed { OnErr result (HasRisen self.old.faults self.new.faults) }
         ensures bound { IfOk result (λ n. n ≤ length buf.new) }
-        ensures reader { ReadConsumes (R.remaining self.old.inner) (R.remaining self.new.inner) result buf.new }
+        ensures reader { ReadConsumes (R.remaining self.old.inner) (R.remaining self.new.inner) result
+            buf.new }
     {
         match self.reader.read(buf) {
             Ok(n) => Ok(n),
@@ -104,7 +105,8 @@ impl<W: Write> Sink for StdSink<W> {
         ensures count { self.old.faults ≤ self.new.faults }
         ensures failed { OnErr result (HasRisen self.old.faults self.new.faults) }
         ensures bound { IfOk result (λ n. n ≤ length bytes.now) }
-        ensures writer { WriteAppends (W.contents self.old.inner) (W.contents self.new.inner) result bytes.now }
+        ensures writer { WriteAppends (W.contents self.old.inner) (W.contents self.new.inner) result
+            bytes.now }
         ensures some { IfOk result (λ n. 0 < length bytes.now → 0 < n) }
     {
         match self.writer.write(bytes) {

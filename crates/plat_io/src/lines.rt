@@ -72,7 +72,8 @@ pub fn write_list_line<K: Sink>(
     numbers: &[u32],
 ) -> Result<(), WriteFault>
     requires { 0 < length words.now }
-    ensures { AddsLines K.Sink sink.old sink.new result ((map spelling words.now ++ map decimal numbers.now) ∷ []) }
+    ensures { AddsLines K.Sink sink.old sink.new result
+        ((map spelling words.now ++ map decimal numbers.now) ∷ []) }
 {
     write_words(sink, words, numbers)
 }
@@ -80,7 +81,8 @@ pub fn write_list_line<K: Sink>(
 #[tactic(auto, using(crate::proofs::LineLemmas::words_of_a_line))]
 fn write_words<K: Sink>(sink: &mut K, words: &[Word<'_>], numbers: &[u32]) -> Result<(), WriteFault>
     requires { length words.now ≡ 0 → length numbers.now ≡ 0 }
-    ensures { Adds K.Sink sink.old sink.new result (line_bytes (map spelling words.now ++ map decimal numbers.now)) }
+    ensures { Adds K.Sink sink.old sink.new result
+        (line_bytes (map spelling words.now ++ map decimal numbers.now)) }
 {
     match words.split_first() {
         None => end_line(sink),

@@ -1,5 +1,6 @@
 //! A source and a sink in memory that fail at calls that are named when they are made.
-ghost use Rattle.std.specs.Prelude.{◌≡◌, ◌+◌, ◌-◌, ◌<◌, ◌≤◌, ◌↔◌, ◌⊎◌, if◌then◌else◌, [], ◌++◌, length, take, min, Contains, IsTrue, IsErr, is_err, IfOk, OnOk, OnErr};
+ghost use Rattle.std.specs.Prelude.{◌≡◌, ◌+◌, ◌-◌, ◌<◌, ◌≤◌, ◌↔◌, ◌⊎◌, if◌then◌else◌, [], ◌++◌, length, take, min, Contains, IsTrue, IsErr};
+ghost use Rattle.std.specs.Prelude.{is_err, IfOk, OnOk, OnErr};
 ghost use Rattle.plat_io.specs.Streams.{HasRisen, raised};
 
 use crate::faults::Failed;
@@ -25,7 +26,12 @@ impl Model for MemorySource {
 
     ghost Value = { SourceState };
 
-    ghost view = { λ it. record { left = it.bytes; calls = it.calls; fails = it.fails.items; faults = it.faults } };
+    ghost view = { λ it. record {
+      left = it.bytes;
+      calls = it.calls;
+      fails = it.fails.items;
+      faults = it.faults;
+    } };
 }
 
 impl MemorySource {
@@ -95,7 +101,13 @@ impl Model for MemorySink {
 
     ghost Value = { SinkState };
 
-    ghost view = { λ it. record { bytes = it.bytes.bytes; size = it.bytes.size; calls = it.calls; fails = it.fails.items; faults = it.faults } };
+    ghost view = { λ it. record {
+      bytes = it.bytes.bytes;
+      size = it.bytes.size;
+      calls = it.calls;
+      fails = it.fails.items;
+      faults = it.faults;
+    } };
 }
 
 impl MemorySink {
@@ -135,7 +147,8 @@ impl Sink for MemorySink {
 
     fn write(&mut self, bytes: &[u8]) -> Result<usize, Failed>
         ensures calls { self.new.calls ≡ raised self.old.calls }
-        ensures exactly { IsErr result ↔ (Contains self.old.fails self.new.calls ⊎ ((length self.old.bytes ≡ self.old.size) × (0 < length bytes.now))) }
+        ensures exactly { IsErr result ↔ (Contains self.old.fails self.new.calls
+            ⊎ ((length self.old.bytes ≡ self.old.size) × (0 < length bytes.now))) }
         ensures fails { self.new.fails ≡ self.old.fails }
         ensures same { OnOk result (self.new.faults ≡ self.old.faults) }
         ensures raised { OnErr result (self.new.faults ≡ raised self.old.faults) }

@@ -80,7 +80,9 @@ impl Model for QuietSink {
 
     ghost view = { λ it. record { bytes = it.bytes.items; size = it.size; refused = it.refused } };
 
-    ghost invariant = { λ it. (length it.bytes.items ≤ it.size) × (it.size ≤ length it.bytes.items + it.bytes.spare) × (0 < it.refused → length it.bytes.items ≡ it.size) };
+    ghost invariant = { λ it. (length it.bytes.items ≤ it.size)
+        × (it.size ≤ length it.bytes.items + it.bytes.spare)
+        × (0 < it.refused → length it.bytes.items ≡ it.size) };
 }
 
 impl QuietSink {

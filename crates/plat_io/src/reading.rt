@@ -19,7 +19,8 @@ pub fn read_all<S: Source>(alloc: Global, source: &mut S, limit: u32) -> Result<
     ensures end { OnOk result (IsAtEnd (S.left source.new)) }
     ensures short { IfOk result (λ bytes. length bytes.items ≤ limit) }
     ensures taken { TakesWithin limit (S.left source.old) (S.left source.new) result }
-    ensures read_fault { IsErrOf result ReadStop.ReadFault → HasRisen (S.faults source.old) (S.faults source.new) }
+    ensures read_fault { IsErrOf result ReadStop.ReadFault →
+        HasRisen (S.faults source.old) (S.faults source.new) }
     ensures count { S.faults source.old ≤ S.faults source.new }
 {
     let most = limit as usize + 1;

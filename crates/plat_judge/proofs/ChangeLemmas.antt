@@ -1,7 +1,8 @@
 -- what a chained change, an answered message and a fault say of their numbers, and how the tests of each add up
-use Rattle.std.proofs.Common.{◌≡◌, ◌≢◌, ℕ, ◌/◌, ◌<◌, ◌≤◌, List, length, Option, Some, None, Bool, true, false, not, refl, ap, sym, subst, ◌∙◌, arith}
+use Rattle.std.proofs.Common.{◌≡◌, ◌≢◌, ℕ, ◌/◌, ◌<◌, ◌≤◌, List, length, Option, Some, None, Bool, true, false, not, refl, ap, sym, subst}
+use Rattle.std.proofs.Common.{◌∙◌, arith}
 use Rattle.std.specs.Prelude.{nat_lt, ◌==◌, ◌&&◌, is_none, is_some, IfSome, unwrap_or, if◌then◌else◌}
-use Rattle.std.proofs.lemmas.Bool.{ne_eqb, and_left, and_right}
+use Rattle.std.proofs.lemmas.Bool.{ne_eqb, and_left, and_right, ltb-true, lt-ltb, eq-eqb}
 use Rattle.std.proofs.lemmas.Bool.Decides.{nat_tests}
 use Rattle.plat_laws.proofs.Limits.{and-left, and-right}
 use Rattle.plat_base.specs.Verdicts.{Answer}
@@ -14,7 +15,8 @@ use Rattle.plat_base.specs.Copies.{same_frame}
 use Rattle.plat_base.specs.Alike.{same_cause, same_right}
 use Rattle.plat_base.specs.Decide.{decide, may_decide}
 use Rattle.plat_base.specs.Accesses.{cause_of, right_of}
-use Rattle.plat_base.specs.Rules.{next_operation, got_named, has_daemon, is_decided, is_fault_of, is_fault_change, is_fault_decision, is_thaw_change, is_chained, may_apply, is_answered}
+use Rattle.plat_base.specs.Rules.{next_operation, got_named, has_daemon, is_decided, is_fault_of, is_fault_change, is_fault_decision}
+use Rattle.plat_base.specs.Rules.{is_thaw_change, is_chained, may_apply, is_answered}
 use Rattle.plat_base.specs.declared.frames.Dir.{Dir}
 use Rattle.plat_base.specs.declared.frames.Frame.{Frame}
 use Rattle.plat_base.specs.declared.items.Applied.{Applied}
@@ -28,9 +30,7 @@ use Rattle.plat_base.specs.declared.policies.Decision.{Decision}
 use Rattle.plat_follow.specs.Wanted.{reach_seen}
 use Rattle.plat_follow.specs.declared.wanted.WantedAccess.{WantedAccess}
 use Rattle.plat_judge.specs.Decided.{decided_if_may}
-
-true_below : (a n : ℕ) → nat_lt a n ≡ true → a < n
-true_below a n h = grind (arith, nat_tests)
+use Rattle.plat_judge.proofs.RuleLemmas.{and-both, and-one}
 
 true_same : (a n : ℕ) → (a == n) ≡ true → a ≤ n
 true_same a n h = grind (arith, nat_tests)
@@ -59,7 +59,7 @@ module _ (m : Machine) (answer : Answer) (items : List Item) (c : Change) where
   by_actor : (b : Bool) → nat_lt c.actor m.nodes ≡ b
       → (if b then is_fault_change m answer items c c.granted else (c.actor == m.nodes && is_thaw_change m answer items c)) ≡ true
       → (c.actor ≤ m.nodes) × GrantsWithin c.granted
-  by_actor true e h = (omega (arith, true_below c.actor m.nodes e), fault_change_within c.granted h)
+  by_actor true e h = (omega (arith, ltb-true c.actor m.nodes e), fault_change_within c.granted h)
   by_actor false e h = (true_same c.actor m.nodes (and-left _ _ h), thaw_within (and-right _ _ h))
 
   chained-parts : is_chained m answer items c ≡ true → (c.actor ≤ m.nodes) × GrantsWithin c.granted
@@ -67,7 +67,7 @@ module _ (m : Machine) (answer : Answer) (items : List Item) (c : Change) where
 
   -- a chained change has a page, an actor and an entry of the machine
   pub chained-page : is_chained m answer items c ≡ true → c.page < m.pages
-  chained-page h = true_below c.page m.pages (and-left _ _ (and-left _ _ (and-left _ _ h)))
+  chained-page h = ltb-true c.page m.pages (and-left _ _ (and-left _ _ (and-left _ _ h)))
 
   pub chained-actor : is_chained m answer items c ≡ true → c.actor ≤ m.nodes
   chained-actor h = (chained-parts h).0
@@ -77,10 +77,10 @@ module _ (m : Machine) (answer : Answer) (items : List Item) (c : Change) where
 
 -- an answered message has an actor and an entry of the machine
 pub answered-actor : (m : Machine) (items : List Item) (x : Applied) → is_answered m items x ≡ true → x.actor < m.nodes
-answered-actor m items x h = true_below x.actor m.nodes (and-left _ _ (and-left _ _ (and-left _ _ h)))
+answered-actor m items x h = ltb-true x.actor m.nodes (and-left _ _ (and-left _ _ (and-left _ _ h)))
 
 pub answered-entry : (m : Machine) (items : List Item) (x : Applied) → is_answered m items x ≡ true → x.entry < length m.entries
-answered-entry m items x h = true_below x.entry (length m.entries) (and-right _ _ (and-left _ _ (and-left _ _ h)))
+answered-entry m items x h = ltb-true x.entry (length m.entries) (and-right _ _ (and-left _ _ (and-left _ _ h)))
 
 -- ---- tests that were made one after another
 
@@ -90,12 +90,6 @@ and-three x y z v h k j = rw (h, k, j) refl
 and-four : (w x y z v : Bool) → w ≡ true → x ≡ true → y ≡ true → z ≡ true → v ≡ (w && x && y && z && v)
 and-four w x y z v h k j i = rw (h, k, j, i) refl
 
-below_true : (a n : ℕ) → a < n → nat_lt a n ≡ true
-below_true a n h = grind (arith, nat_tests)
-
-same_true : (a b : ℕ) → a ≡ b → (a == b) ≡ true
-same_true a b h = grind (arith, nat_tests)
-
 -- a message whose actor and entry are the machine's, in the space of its entry
 pub answered-by :
     (m : Machine) (items : List Item) (x : Applied) (t : Option Translation) (may : Bool) → x.actor < m.nodes → x.entry < length m.entries
@@ -104,8 +98,8 @@ pub answered-by :
 answered-by m items x t may actor entry space holds applies =
     (applies ∙ ap (may_apply x.message) holds)
     ∙ and-three (nat_lt x.actor m.nodes) (nat_lt x.entry (length m.entries)) (active m items x.actor == space_of m x.entry)
-    (may_apply x.message (held m items x.actor x.entry)) (below_true x.actor m.nodes actor) (below_true x.entry (length m.entries) entry)
-    (same_true (active m items x.actor) (space_of m x.entry) space)
+    (may_apply x.message (held m items x.actor x.entry)) (lt-ltb x.actor m.nodes actor) (lt-ltb x.entry (length m.entries) entry)
+    (eq-eqb (active m items x.actor) (space_of m x.entry) space)
 
 pub unanswered-actor : (m : Machine) (items : List Item) (x : Applied) → m.nodes ≤ x.actor → false ≡ is_answered m items x
 unanswered-actor m items x h = let no : nat_lt x.actor m.nodes ≡ false = grind (arith, nat_tests) in rw no refl
@@ -128,9 +122,10 @@ fault-by m items c g a t has found below entry page cause holds right =
     ap not (right ∙ ap (has_right a.kind) holds)
     ∙ and-four (nat_lt g.entry (length m.entries)) (g.entry == unwrap_or (entry_at m a.space (a.addr / m.words)) (length m.entries))
     (a.page == c.page) (same_cause (cause_of a.kind) c.cause) (not (has_right a.kind (held m items c.actor g.entry)))
-    (below_true g.entry (length m.entries) (omega arith))
-    (same_true g.entry (unwrap_or (entry_at m a.space (a.addr / m.words)) (length m.entries)) (entry ∙ sym (ap (λ (e : Option ℕ). unwrap_or e (length m.entries)) found)))
-    (same_true a.page c.page page) cause
+    (lt-ltb g.entry (length m.entries) (omega arith))
+    (eq-eqb g.entry (unwrap_or (entry_at m a.space (a.addr / m.words)) (length m.entries))
+    (entry ∙ sym (ap (λ (e : Option ℕ). unwrap_or e (length m.entries)) found)))
+    (eq-eqb a.page c.page page) cause
 
 -- ---- decisions
 
@@ -187,9 +182,6 @@ fault-undecided m answer items c g last same h =
 abbrev pub may_thaw : Machine → Change → Bool
 may_thaw m c = has_daemon m.policy && same_cause c.cause causes.Thaw && is_none c.granted
 
-thaw-and : (x w v : Bool) → x ≡ true → w ≡ true → v ≡ (x && w && v)
-thaw-and x w v h k = rw (h, k) refl
-
 thaw-none : (x w v : Bool) → w ≡ false → false ≡ (x && w && v)
 thaw-none x w v h = sym (and_left (x && w) v (and_right x w h))
 
@@ -201,7 +193,7 @@ thaw-decided m answer items c last e thaws same h =
     let here = subst (λ (l : Option ℕ). decided_if_may m answer c.before l c.time c.actor causes.Thaw None ≡ Some e) same h in
     let both = decided-some m answer c.before (last_of items c.page) c.time c.actor causes.Thaw None e here in
     ap (λ (d : Decision). is_decided d c) (sym both.1)
-    ∙ thaw-and (may_thaw m c) (may_decide m answer c.before (last_of items c.page) c.time c.actor causes.Thaw None)
+    ∙ and-both (may_thaw m c) (may_decide m answer c.before (last_of items c.page) c.time c.actor causes.Thaw None)
     (is_decided (decide m answer c.before (last_of items c.page) c.time c.actor causes.Thaw None) c) thaws both.0
 
 pub thaw-undecided :
@@ -218,23 +210,24 @@ not_some : {A : Type 0} (o : Option A) → is_some o ≡ false → is_none o ≡
 not_some None h = refl
 not_some (Some x) h = absurd cc
 
-pub thaws : (m : Machine) (c : Change) → has_daemon m.policy ≡ true → same_cause c.cause causes.Thaw ≡ true → is_some c.granted ≡ false → may_thaw m c ≡ true
+pub thaws : (m : Machine) (c : Change) → has_daemon m.policy ≡ true → same_cause c.cause causes.Thaw ≡ true → is_some c.granted ≡ false →
+    may_thaw m c ≡ true
 thaws m c daemon cause granted = rw (daemon, cause, not_some c.granted granted) refl
 
 -- ---- a change by a processor
 
-and-one : (x v : Bool) → x ≡ true → v ≡ (x && v)
-and-one x v h = rw h refl
-
-module _ (m : Machine) (answer : Answer) (items : List Item) (c : Change) (g : Grant) (o : Option Operation) (next : o ≡ next_operation m items c.actor) where
+module _ (m : Machine) (answer : Answer) (items : List Item) (c : Change) (g : Grant) (o : Option Operation)
+    (next : o ≡ next_operation m items c.actor) where
   now : (fault : Bool) → fault ≡ is_fault_of m items c g o → is_fault_of m items c g (next_operation m items c.actor) ≡ fault
   now fault h = sym (h ∙ ap (is_fault_of m items c g) next)
 
-  pub fault-change : (fault decided : Bool) → fault ≡ is_fault_of m items c g o → fault ≡ true → decided ≡ is_fault_decision m answer items c g
+  pub fault-change : (fault decided : Bool) → fault ≡ is_fault_of m items c g o → fault ≡ true →
+      decided ≡ is_fault_decision m answer items c g
       → decided ≡ is_fault_change m answer items c (Some g)
   fault-change fault decided of is by =
       by ∙ and-one (is_fault_of m items c g (next_operation m items c.actor)) (is_fault_decision m answer items c g) (now fault of ∙ is)
 
-  pub no_fault-change : (fault : Bool) → fault ≡ is_fault_of m items c g o → fault ≡ false → false ≡ is_fault_change m answer items c (Some g)
+  pub no_fault-change : (fault : Bool) → fault ≡ is_fault_of m items c g o → fault ≡ false →
+      false ≡ is_fault_change m answer items c (Some g)
   no_fault-change fault of is =
       sym (and_left (is_fault_of m items c g (next_operation m items c.actor)) (is_fault_decision m answer items c g) (now fault of ∙ is))

@@ -9,7 +9,8 @@ use Rattle.plat_base.specs.declared.items.Item.{Item}
 use Rattle.plat_base.specs.declared.statuses.Bad.{Bad}
 use Rattle.plat_base.specs.declared.statuses.Rule.{Rule}
 
-pub taken-more : (items : List Item) (n : ℕ) (i : Item) → n < length items → i ≡ get_or items n i → take (n + 1) items ≡ take n items ++ i ∷ []
+pub taken-more : (items : List Item) (n : ℕ) (i : Item) → n < length items → i ≡ get_or items n i →
+    take (n + 1) items ≡ take n items ++ i ∷ []
 taken-more items n i inside here = take_more items n i inside ∙ ap (λ (x : Item). take n items ++ x ∷ []) (sym here)
 
 module _ (m : Machine) (answer : Answer) (items : List Item) where
@@ -25,7 +26,8 @@ module _ (m : Machine) (answer : Answer) (items : List Item) where
       ap (bad_after m answer (take n items) n) (drop_more items n i inside ∙ ap (λ (x : Item). x ∷ drop (n + 1) items) (sym here))
 
   pub found-bad : (ends : List Ended) (n : ℕ) (i : Item) (r : Rule) → n < length items → i ≡ get_or items n i → IsAmong n
-      → Some r ≡ bad_rule m answer (take n items) i → Some (let b : Bad = record { item = n; rule = r } in b) ≡ first_bad m answer items ends
+      → Some r ≡ bad_rule m answer (take n items) i → Some (let b : Bad = record { item = n; rule = r } in b)
+      ≡ first_bad m answer items ends
   unfolding first_bad
   found-bad ends n i r inside here among bad =
       let at : bad_after m answer [] 0 items ≡ Some (record { item = n; rule = r }) =
@@ -43,4 +45,5 @@ module _ (m : Machine) (answer : Answer) (items : List Item) where
   pub found-none : (ends : List Ended) (n : ℕ) → length items ≤ n → IsAmong n → bad_ends m items ends ≡ first_bad m answer items ends
   unfolding first_bad
   found-none ends n past among =
-      sym (ap (λ (x : Option Bad). bad_or x (bad_ends m items ends)) (among ∙ ap (bad_after m answer (take n items) n) (drop_all n items past)))
+      sym (ap (λ (x : Option Bad). bad_or x (bad_ends m items ends))
+      (among ∙ ap (bad_after m answer (take n items) n) (drop_all n items past)))

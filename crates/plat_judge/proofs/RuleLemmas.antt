@@ -1,14 +1,15 @@
 -- the rules of an item, case by case
 use Rattle.std.proofs.Common.{◌≡◌, ℕ, ◌<◌, List, Option, Some, None, Bool, true, false, refl, ap, sym, ◌∙◌, arith}
 use Rattle.std.specs.Prelude.{nat_lt, ◌&&◌}
-use Rattle.std.proofs.lemmas.Bool.{and_right}
+use Rattle.std.proofs.lemmas.Bool.{and_right, lt-ltb}
 use Rattle.std.proofs.lemmas.Bool.Decides.{nat_tests}
 use Rattle.plat_laws.proofs.Limits.{and-left}
 use Rattle.plat_base.specs.Verdicts.{Answer}
 use Rattle.plat_base.specs.Machine.{Machine}
 use Rattle.plat_base.specs.GuestRun.{Operation}
 use Rattle.plat_base.specs.Decide.{is_frame}
-use Rattle.plat_base.specs.Rules.{next_operation, is_access_next, is_switch_next, is_ordered_access, is_ordered_switch, is_granted, is_legal, unless, first_rule, bad_rule}
+use Rattle.plat_base.specs.Rules.{next_operation, is_access_next, is_switch_next, is_ordered_access, is_ordered_switch, is_granted}
+use Rattle.plat_base.specs.Rules.{is_legal, unless, first_rule, bad_rule}
 use Rattle.plat_base.specs.declared.items.Access.{Access}
 use Rattle.plat_base.specs.declared.items.Switch.{Switch}
 use Rattle.plat_base.specs.declared.items.Item.{Item}
@@ -16,6 +17,7 @@ use Rattle.plat_base.specs.declared.items.Item.TheVariants as item
 use Rattle.plat_base.specs.declared.statuses.Rule.{Rule}
 use Rattle.plat_base.specs.declared.statuses.Rule.TheVariants as rule
 use Rattle.plat_follow.specs.Followed.{IsNextItem}
+use Rattle.plat_base.proofs.RuleLemmas.{unless-none}
 
 -- ---- what an access breaks
 
@@ -48,19 +50,12 @@ breaks ok r h = rw h refl
 pub keeps : (ok : Bool) (r : Rule) → ok ≡ true → None ≡ unless ok r
 keeps ok r h = rw h refl
 
-kept-of : (ok : Bool) (r : Rule) → unless ok r ≡ None → ok ≡ true
-kept-of true r h = refl
-kept-of false r h = absurd cc
-
 -- ---- order
 
-below-true : (a n : ℕ) → a < n → nat_lt a n ≡ true
-below-true a n h = grind (arith, nat_tests)
-
-and-both : (x y z : Bool) → x ≡ true → y ≡ true → z ≡ (x && y && z)
+pub and-both : (x y z : Bool) → x ≡ true → y ≡ true → z ≡ (x && y && z)
 and-both x y z h k = rw (h, k) refl
 
-and-one : (x z : Bool) → x ≡ true → z ≡ (x && z)
+pub and-one : (x z : Bool) → x ≡ true → z ≡ (x && z)
 and-one x z h = rw h refl
 
 module _ (m : Machine) (items : List Item) where
@@ -75,14 +70,14 @@ module _ (m : Machine) (items : List Item) where
   ordered-access a o inside frame next =
       ap (λ (o : Option Operation). is_access_next o a) next
       ∙ and-both (nat_lt a.actor m.nodes) (is_frame m a.frame) (is_access_next (next_operation m items a.actor) a)
-      (below-true a.actor m.nodes inside) frame
+      (lt-ltb a.actor m.nodes inside) frame
 
   pub ordered-switch :
       (s : Switch) (o : Option Operation) → s.actor < m.nodes → o ≡ next_operation m items s.actor
       → is_switch_next o s.space ≡ is_ordered_switch m items s
   ordered-switch s o inside next =
       ap (λ (o : Option Operation). is_switch_next o s.space) next
-      ∙ and-one (nat_lt s.actor m.nodes) (is_switch_next (next_operation m items s.actor) s.space) (below-true s.actor m.nodes inside)
+      ∙ and-one (nat_lt s.actor m.nodes) (is_switch_next (next_operation m items s.actor) s.space) (lt-ltb s.actor m.nodes inside)
 
 pub ordered-actor : (m : Machine) (items : List Item) (s : Switch) → is_ordered_switch m items s ≡ true → s.actor < m.nodes
 ordered-actor m items s h = let inside = and-left (nat_lt s.actor m.nodes) _ h in grind (arith, nat_tests)
@@ -92,4 +87,4 @@ pub next-of : (m : Machine) (answer : Answer) (items : List Item) (i : Item) →
 next-of m answer items (item.Access a) h = in_order-of (is_ordered_access m items a) (is_granted m items a) (is_legal m items a) h
 next-of m answer items (item.Change c) h = tt
 next-of m answer items (item.Applied x) h = tt
-next-of m answer items (item.Switch s) h = kept-of (is_ordered_switch m items s) rule.Order h
+next-of m answer items (item.Switch s) h = unless-none (is_ordered_switch m items s) rule.Order h

@@ -3,7 +3,8 @@ ghost use Rattle.std.specs.Prelude.{◌≡◌, ◌/◌, ◌<◌, List as Many, �
 ghost use Rattle.plat_base.specs.Decide.{is_frame};
 ghost use Rattle.plat_base.specs.Machine.{Machine};
 ghost use Rattle.plat_base.specs.Pages.{entry_at};
-ghost use Rattle.plat_base.specs.Rules.{bad_rule, is_access_next, is_ordered_access, is_grant_of as is_grant_of_access, is_granted as is_granted_after, entry_of_access};
+ghost use Rattle.plat_base.specs.Rules.{bad_rule, is_access_next, is_ordered_access, is_grant_of as is_grant_of_access};
+ghost use Rattle.plat_base.specs.Rules.{is_granted as is_granted_after, entry_of_access};
 ghost use Rattle.plat_base.specs.Seen.{machine};
 ghost use Rattle.plat_base.specs.Verdicts.{Answer};
 ghost use Rattle.plat_base.specs.declared.items.Item.{Item as AnyItem};
@@ -25,8 +26,11 @@ pub fn judge_access(
     access: &Access,
 ) -> Option<Rule>
     requires { HasTakenSome (machine cfg.now) (judge_of present.old followers.now) }
-    ensures rule { (answer : Answer) (items : Many AnyItem) → Shows (machine cfg.now) items present.old → AllFollow (machine cfg.now) items followers.now → result ≡ bad_rule (machine cfg.now) answer items (item.Access access.now) }
-    ensures taken { (items : Many AnyItem) → Shows (machine cfg.now) items present.old → result ≡ None → Shows (machine cfg.now) (items ++ item.Access access.now ∷ []) present.new }
+    ensures rule { (answer : Answer) (items : Many AnyItem) → Shows (machine cfg.now) items present.old →
+        AllFollow (machine cfg.now) items followers.now →
+        result ≡ bad_rule (machine cfg.now) answer items (item.Access access.now) }
+    ensures taken { (items : Many AnyItem) → Shows (machine cfg.now) items present.old → result ≡ None →
+        Shows (machine cfg.now) (items ++ item.Access access.now ∷ []) present.new }
 {
     let Some(entry) = ordered_entry(cfg, followers, access) else {
         return Some(Rule::Order);
@@ -43,8 +47,10 @@ pub fn judge_access(
 /// The entry of an access that is the next operation of its actor's guest.
 fn ordered_entry(cfg: &Config, followers: &Followers, access: &Access) -> Option<u32>
     requires { AllStand (machine cfg.now) followers.now }
-    ensures order { (items : Many AnyItem) → AllFollow (machine cfg.now) items followers.now → is_some result ≡ is_ordered_access (machine cfg.now) items access.now }
-    ensures entry { IfSome result (λ entry. entry_at (machine cfg.now) access.now.space (access.now.addr / cfg.now.words) ≡ Some entry) }
+    ensures order { (items : Many AnyItem) → AllFollow (machine cfg.now) items followers.now →
+        is_some result ≡ is_ordered_access (machine cfg.now) items access.now }
+    ensures entry { IfSome result (λ entry.
+        entry_at (machine cfg.now) access.now.space (access.now.addr / cfg.now.words) ≡ Some entry) }
     ensures actor { IfSome result (λ entry. access.now.actor < cfg.now.nodes) }
 {
     if access.actor >= cfg.nodes || !has_frame(cfg, access.frame) {
@@ -59,7 +65,8 @@ fn ordered_entry(cfg: &Config, followers: &Followers, access: &Access) -> Option
 /// The entry of the access that is wanted, if it is this one.
 fn entry_made(wanted: Wanted, access: &Access) -> Option<u32>
     ensures made { is_some result ≡ is_access_next (Some (operation_seen wanted)) access.now }
-    ensures entry { (m : Machine) → IsThroughEntry m wanted → IfSome result (λ entry. entry_at m access.now.space (access.now.addr / m.words) ≡ Some entry) }
+    ensures entry { (m : Machine) → IsThroughEntry m wanted →
+        IfSome result (λ entry. entry_at m access.now.space (access.now.addr / m.words) ≡ Some entry) }
 {
     match wanted {
         Wanted::Access(reach) if wanted.is_access(access) => Some(reach.entry),
@@ -78,7 +85,8 @@ fn has_frame(cfg: &Config, frame: Frame) -> bool
 fn is_granted(present: &Present, access: &Access, entry: u32) -> bool
     requires processor { access.now.actor < length present.now.held }
     requires entry { entry < length (slice_index_or present.now.held access.now.actor []) }
-    ensures { (m : Machine) (items : Many AnyItem) → Shows m items present.now → entry_of_access m access.now ≡ Some entry → result ≡ is_granted_after m items access.now }
+    ensures { (m : Machine) (items : Many AnyItem) → Shows m items present.now →
+        entry_of_access m access.now ≡ Some entry → result ≡ is_granted_after m items access.now }
 {
     let held = present.held(access.actor, entry);
     is_grant_of(access, held)

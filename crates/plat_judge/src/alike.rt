@@ -32,7 +32,8 @@ pub fn is_decided(decision: &Decision, change: &Change) -> bool
 
 /// Whether a change does what was decided, and grants the frame that was decided with the right of its cause.
 pub fn is_granted_so(decision: &Decision, change: &Change, grant: Grant) -> bool
-    ensures { result ≡ (is_decided_of decision.now change.now && same_frame decision.now.frame grant.frame && same_right grant.right (right_of_cause change.now.cause)) }
+    ensures { result ≡ (is_decided_of decision.now change.now && same_frame decision.now.frame grant.frame
+        && same_right grant.right (right_of_cause change.now.cause)) }
 {
     is_decided(decision, change)
         && decision.frame == grant.frame

@@ -1,7 +1,9 @@
 //! The rule of a change: it follows the page's last one, and is what a fault or a thaw decides.
 ghost use Rattle.std.specs.Prelude.{◌≡◌, ◌≢◌, ◌<◌, List as Many, ◌++◌, ◌∷◌, [], length, Some, None};
 ghost use Rattle.plat_base.specs.Directories.{last_of};
-ghost use Rattle.plat_base.specs.Rules.{bad_rule, is_chained as is_chained_after, is_fault_change as is_fault_change_after, is_fault_decision as is_fault_decision_after, is_fault_of as is_fault_of_after, is_thaw_change as is_thaw_change_after, got_named as got_named_by, has_daemon as has_daemon_by};
+ghost use Rattle.plat_base.specs.Rules.{bad_rule, is_chained as is_chained_after, is_fault_change as is_fault_change_after};
+ghost use Rattle.plat_base.specs.Rules.{is_fault_decision as is_fault_decision_after, is_fault_of as is_fault_of_after};
+ghost use Rattle.plat_base.specs.Rules.{is_thaw_change as is_thaw_change_after, got_named as got_named_by, has_daemon as has_daemon_by};
 ghost use Rattle.plat_base.specs.Seen.{machine};
 ghost use Rattle.plat_base.specs.declared.items.Item.{Item as AnyItem};
 ghost use Rattle.plat_base.specs.declared.items.Item.TheVariants as item;
@@ -26,8 +28,11 @@ pub fn judge_change<P: Policy>(
     change: &Change,
 ) -> Option<Rule>
     requires { HasRoom (machine cfg.now) (judge_of present.old followers.now) }
-    ensures rule { (items : Many AnyItem) → Shows (machine cfg.now) items present.old → AllFollow (machine cfg.now) items followers.now → result ≡ bad_rule (machine cfg.now) (P.answer policy.now) items (item.Change change.now) }
-    ensures taken { (items : Many AnyItem) → Shows (machine cfg.now) items present.old → result ≡ None → Shows (machine cfg.now) (items ++ item.Change change.now ∷ []) present.new }
+    ensures rule { (items : Many AnyItem) → Shows (machine cfg.now) items present.old →
+        AllFollow (machine cfg.now) items followers.now →
+        result ≡ bad_rule (machine cfg.now) (P.answer policy.now) items (item.Change change.now) }
+    ensures taken { (items : Many AnyItem) → Shows (machine cfg.now) items present.old → result ≡ None →
+        Shows (machine cfg.now) (items ++ item.Change change.now ∷ []) present.new }
 {
     if !is_chained(cfg, policy, present, followers, change) {
         return Some(Rule::Chain);
@@ -46,7 +51,9 @@ fn is_chained<P: Policy>(
 ) -> bool
     requires fits { Fits (machine cfg.now) present.now }
     requires stand { AllStand (machine cfg.now) followers.now }
-    ensures { (items : Many AnyItem) → Shows (machine cfg.now) items present.now → AllFollow (machine cfg.now) items followers.now → result ≡ is_chained_after (machine cfg.now) (P.answer policy.now) items change.now }
+    ensures { (items : Many AnyItem) → Shows (machine cfg.now) items present.now →
+        AllFollow (machine cfg.now) items followers.now →
+        result ≡ is_chained_after (machine cfg.now) (P.answer policy.now) items change.now }
 {
     if change.page >= cfg.pages
         || change.seq != present.seq(change.page)
@@ -74,7 +81,10 @@ fn is_fault_change<P: Policy>(
     requires fits { Fits (machine cfg.now) present.now }
     requires stand { AllStand (machine cfg.now) followers.now }
     requires processor { change.now.actor < cfg.now.nodes }
-    ensures { (items : Many AnyItem) → Shows (machine cfg.now) items present.now → AllFollow (machine cfg.now) items followers.now → last ≡ last_of items change.now.page → result ≡ is_fault_change_after (machine cfg.now) (P.answer policy.now) items change.now change.now.granted }
+    ensures { (items : Many AnyItem) → Shows (machine cfg.now) items present.now →
+        AllFollow (machine cfg.now) items followers.now → last ≡ last_of items change.now.page →
+        result ≡ is_fault_change_after (machine cfg.now) (P.answer policy.now) items change.now
+        change.now.granted }
 {
     let Some(grant) = change.granted else {
         return false;
@@ -99,7 +109,8 @@ fn is_fault_of(
     requires fits { Fits (machine cfg.now) present.now }
     requires processor { change.now.actor < cfg.now.nodes }
     requires entry { IsThroughEntry (machine cfg.now) wanted }
-    ensures { (items : Many AnyItem) → Shows (machine cfg.now) items present.now → result ≡ is_fault_of_after (machine cfg.now) items change.now grant (Some (operation_seen wanted)) }
+    ensures { (items : Many AnyItem) → Shows (machine cfg.now) items present.now →
+        result ≡ is_fault_of_after (machine cfg.now) items change.now grant (Some (operation_seen wanted)) }
 {
     let Wanted::Access(reach) = wanted else {
         return false;
@@ -122,7 +133,8 @@ fn is_fault_decision<P: Policy>(
     last: Option<u32>,
 ) -> bool
     requires { change.now.actor < cfg.now.nodes }
-    ensures { (items : Many AnyItem) → last ≡ last_of items change.now.page → result ≡ is_fault_decision_after (machine cfg.now) (P.answer policy.now) items change.now grant }
+    ensures { (items : Many AnyItem) → last ≡ last_of items change.now.page →
+        result ≡ is_fault_decision_after (machine cfg.now) (P.answer policy.now) items change.now grant }
 {
     let got = got_named(change.action, grant);
     match decision_of(cfg, policy, change, last, change.actor, change.cause, got) {
@@ -142,7 +154,8 @@ fn decision_of<P: Policy>(
     got: Option<Frame>,
 ) -> Option<Decision>
     requires { cause ≢ Cause.Thaw → actor < cfg.now.nodes }
-    ensures { result ≡ decided_if_may (machine cfg.now) (P.answer policy.now) change.now.before last change.now.time actor cause got }
+    ensures { result ≡ decided_if_may (machine cfg.now) (P.answer policy.now) change.now.before last
+        change.now.time actor cause got }
 {
     let before = &change.before;
     if may_decide(cfg, policy, before, last, change.time, actor, cause, got) {
@@ -164,7 +177,8 @@ fn got_named(action: Action, grant: Grant) -> Option<Frame>
 
 /// Whether a change of the daemon is the thaw of a frozen page.
 fn is_thaw_change<P: Policy>(cfg: &Config, policy: &P, change: &Change, last: Option<u32>) -> bool
-    ensures { (items : Many AnyItem) → last ≡ last_of items change.now.page → result ≡ is_thaw_change_after (machine cfg.now) (P.answer policy.now) items change.now }
+    ensures { (items : Many AnyItem) → last ≡ last_of items change.now.page →
+        result ≡ is_thaw_change_after (machine cfg.now) (P.answer policy.now) items change.now }
 {
     if !has_daemon(&cfg.policy)
         || !same_cause(change.cause, Cause::Thaw)

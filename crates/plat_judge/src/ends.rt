@@ -16,7 +16,9 @@ use plat_follow::{Followers, Wanted};
 pub fn are_ends(cfg: &Config, present: &Present, followers: &Followers, ends: &[Ended]) -> bool
     requires fits { Fits (machine cfg.now) present.now }
     requires stand { AllStand (machine cfg.now) followers.now }
-    ensures { (items : Many AnyItem) → Shows (machine cfg.now) items present.now → AllFollow (machine cfg.now) items followers.now → result ≡ are_ends_of (machine cfg.now) items ends.now }
+    ensures { (items : Many AnyItem) → Shows (machine cfg.now) items present.now →
+        AllFollow (machine cfg.now) items followers.now →
+        result ≡ are_ends_of (machine cfg.now) items ends.now }
 {
     if ends.len() != cfg.nodes as usize {
         return false;
@@ -34,7 +36,9 @@ fn is_ended(cfg: &Config, present: &Present, followers: &Followers, q: u32, ende
     requires fits { Fits (machine cfg.now) present.now }
     requires stand { AllStand (machine cfg.now) followers.now }
     requires processor { q < cfg.now.nodes }
-    ensures { (items : Many AnyItem) → Shows (machine cfg.now) items present.now → AllFollow (machine cfg.now) items followers.now → result ≡ is_ended_of (machine cfg.now) items q ended }
+    ensures { (items : Many AnyItem) → Shows (machine cfg.now) items present.now →
+        AllFollow (machine cfg.now) items followers.now →
+        result ≡ is_ended_of (machine cfg.now) items q ended }
 {
     let lacks_right = lacks_right(cfg, present, followers, q);
     followers.ends_so(cfg, q, ended, lacks_right)
@@ -45,7 +49,8 @@ fn lacks_right(cfg: &Config, present: &Present, followers: &Followers, q: u32) -
     requires fits { Fits (machine cfg.now) present.now }
     requires stand { AllStand (machine cfg.now) followers.now }
     requires processor { q < cfg.now.nodes }
-    ensures { (items : Many AnyItem) → Shows (machine cfg.now) items present.now → AllFollow (machine cfg.now) items followers.now → result ≡ lacks_right_of (machine cfg.now) items q }
+    ensures { (items : Many AnyItem) → Shows (machine cfg.now) items present.now →
+        AllFollow (machine cfg.now) items followers.now → result ≡ lacks_right_of (machine cfg.now) items q }
 {
     match followers.next(q) {
         Some(wanted) => lacks_right_for(cfg, present, q, wanted),
@@ -58,7 +63,8 @@ fn lacks_right_for(cfg: &Config, present: &Present, q: u32, wanted: Wanted) -> b
     requires fits { Fits (machine cfg.now) present.now }
     requires processor { q < cfg.now.nodes }
     requires entry { IsThroughEntry (machine cfg.now) wanted }
-    ensures { (items : Many AnyItem) → Shows (machine cfg.now) items present.now → result ≡ lacks_right_for (machine cfg.now) items q (Some (operation_seen wanted)) }
+    ensures { (items : Many AnyItem) → Shows (machine cfg.now) items present.now →
+        result ≡ lacks_right_for (machine cfg.now) items q (Some (operation_seen wanted)) }
 {
     match wanted {
         Wanted::Access(reach) => !has_right(reach.kind, present.held(q, reach.entry)),

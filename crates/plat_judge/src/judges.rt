@@ -44,8 +44,11 @@ fn judge_item<P: Policy>(
     item: &Item,
 ) -> Option<Rule>
     requires { HasRoom (machine cfg.now) (judge_of present.old followers.now) }
-    ensures rule { (items : Many AnyItem) → Shows (machine cfg.now) items present.old → AllFollow (machine cfg.now) items followers.now → result ≡ bad_rule_of (machine cfg.now) (P.answer policy.now) items item.now }
-    ensures taken { (items : Many AnyItem) → Shows (machine cfg.now) items present.old → result ≡ None → Shows (machine cfg.now) (items ++ item.now ∷ []) present.new }
+    ensures rule { (items : Many AnyItem) → Shows (machine cfg.now) items present.old →
+        AllFollow (machine cfg.now) items followers.now →
+        result ≡ bad_rule_of (machine cfg.now) (P.answer policy.now) items item.now }
+    ensures taken { (items : Many AnyItem) → Shows (machine cfg.now) items present.old → result ≡ None →
+        Shows (machine cfg.now) (items ++ item.now ∷ []) present.new }
 {
     match item {
         Item::Access(access) => judge_access(cfg, present, followers, access),
@@ -104,8 +107,10 @@ impl Judge {
     /// Takes in one more item, or answers the rule that it breaks.
     fn take_in<P: Policy>(&mut self, cfg: &Config, policy: &P, item: &Item) -> Option<Rule>
         requires { HasRoom (machine cfg.now) self.old }
-        ensures rule { (items : Many AnyItem) → HasTaken (machine cfg.now) items self.old → result ≡ bad_rule_of (machine cfg.now) (P.answer policy.now) items item.now }
-        ensures taken { (items : Many AnyItem) → HasTaken (machine cfg.now) items self.old → result ≡ None → HasTaken (machine cfg.now) (items ++ item.now ∷ []) self.new }
+        ensures rule { (items : Many AnyItem) → HasTaken (machine cfg.now) items self.old →
+            result ≡ bad_rule_of (machine cfg.now) (P.answer policy.now) items item.now }
+        ensures taken { (items : Many AnyItem) → HasTaken (machine cfg.now) items self.old → result ≡ None →
+            HasTaken (machine cfg.now) (items ++ item.now ∷ []) self.new }
     {
         let rule = judge_item(cfg, policy, &mut self.present, &self.followers, item);
         if rule.is_none() {
@@ -117,7 +122,8 @@ impl Judge {
     /// The rule of ends after so many good items.
     fn bad_ends(&self, cfg: &Config, count: u32, ends: &[Ended]) -> Option<Bad>
         requires { HasTakenSome (machine cfg.now) self.now }
-        ensures { (items : Many AnyItem) → HasTaken (machine cfg.now) items self.now → count ≡ length items → result ≡ bad_ends (machine cfg.now) items ends.now }
+        ensures { (items : Many AnyItem) → HasTaken (machine cfg.now) items self.now → count ≡ length items →
+            result ≡ bad_ends (machine cfg.now) items ends.now }
     {
         if are_ends(cfg, &self.present, &self.followers, ends) {
             None

@@ -1,6 +1,7 @@
 //! The rules of an applied message and of a switch.
 ghost use Rattle.std.specs.Prelude.{◌≡◌, List as Many, ◌++◌, ◌∷◌, [], None};
-ghost use Rattle.plat_base.specs.Rules.{bad_rule, may_apply as may_apply_to, is_answered as is_answered_after, is_ordered_switch as is_ordered_switch_after};
+ghost use Rattle.plat_base.specs.Rules.{bad_rule, may_apply as may_apply_to, is_answered as is_answered_after};
+ghost use Rattle.plat_base.specs.Rules.{is_ordered_switch as is_ordered_switch_after};
 ghost use Rattle.plat_base.specs.Seen.{machine};
 ghost use Rattle.plat_base.specs.Verdicts.{Answer};
 ghost use Rattle.plat_base.specs.declared.items.Item.{Item as AnyItem};
@@ -16,8 +17,10 @@ use plat_follow::Followers;
 /// The rule that an applied message breaks, if it is the next item. Where it breaks none, it is taken in.
 pub fn judge_applied(cfg: &Config, present: &mut Present, applied: Applied) -> Option<Rule>
     requires { (items : Many AnyItem) × Shows (machine cfg.now) items present.old }
-    ensures rule { (answer : Answer) (items : Many AnyItem) → Shows (machine cfg.now) items present.old → result ≡ bad_rule (machine cfg.now) answer items (item.Applied applied) }
-    ensures taken { (items : Many AnyItem) → Shows (machine cfg.now) items present.old → result ≡ None → Shows (machine cfg.now) (items ++ item.Applied applied ∷ []) present.new }
+    ensures rule { (answer : Answer) (items : Many AnyItem) → Shows (machine cfg.now) items present.old →
+        result ≡ bad_rule (machine cfg.now) answer items (item.Applied applied) }
+    ensures taken { (items : Many AnyItem) → Shows (machine cfg.now) items present.old → result ≡ None →
+        Shows (machine cfg.now) (items ++ item.Applied applied ∷ []) present.new }
 {
     if !is_answered(cfg, present, applied) {
         return Some(Rule::Held);
@@ -29,7 +32,8 @@ pub fn judge_applied(cfg: &Config, present: &mut Present, applied: Applied) -> O
 /// Whether a message finds a translation that it can be applied to, in the space that its actor is active in.
 fn is_answered(cfg: &Config, present: &Present, applied: Applied) -> bool
     requires { Fits (machine cfg.now) present.now }
-    ensures { (items : Many AnyItem) → Shows (machine cfg.now) items present.now → result ≡ is_answered_after (machine cfg.now) items applied }
+    ensures { (items : Many AnyItem) → Shows (machine cfg.now) items present.now →
+        result ≡ is_answered_after (machine cfg.now) items applied }
 {
     if applied.actor >= cfg.nodes || applied.entry as usize >= cfg.entries.len() {
         return false;
@@ -58,8 +62,11 @@ pub fn judge_switch(
     switch: Switch,
 ) -> Option<Rule>
     requires { HasTakenSome (machine cfg.now) (judge_of present.old followers.now) }
-    ensures rule { (answer : Answer) (items : Many AnyItem) → AllFollow (machine cfg.now) items followers.now → result ≡ bad_rule (machine cfg.now) answer items (item.Switch switch) }
-    ensures taken { (items : Many AnyItem) → Shows (machine cfg.now) items present.old → result ≡ None → Shows (machine cfg.now) (items ++ item.Switch switch ∷ []) present.new }
+    ensures rule { (answer : Answer) (items : Many AnyItem) →
+        AllFollow (machine cfg.now) items followers.now →
+        result ≡ bad_rule (machine cfg.now) answer items (item.Switch switch) }
+    ensures taken { (items : Many AnyItem) → Shows (machine cfg.now) items present.old → result ≡ None →
+        Shows (machine cfg.now) (items ++ item.Switch switch ∷ []) present.new }
 {
     if !is_ordered_switch(cfg, followers, switch) {
         return Some(Rule::Order);
@@ -71,7 +78,8 @@ pub fn judge_switch(
 /// Whether a switch is the next operation of its actor's guest.
 fn is_ordered_switch(cfg: &Config, followers: &Followers, switch: Switch) -> bool
     requires { AllStand (machine cfg.now) followers.now }
-    ensures { (items : Many AnyItem) → AllFollow (machine cfg.now) items followers.now → result ≡ is_ordered_switch_after (machine cfg.now) items switch }
+    ensures { (items : Many AnyItem) → AllFollow (machine cfg.now) items followers.now →
+        result ≡ is_ordered_switch_after (machine cfg.now) items switch }
 {
     if switch.actor >= cfg.nodes {
         return false;

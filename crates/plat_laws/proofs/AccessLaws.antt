@@ -12,7 +12,8 @@ use Rattle.plat_base.specs.Accesses.{writes_made}
 use Rattle.plat_base.specs.Copies.{same_frame}
 use Rattle.plat_base.specs.Held.{held, held_through, has_right, later, removes_all, removes_writes}
 use Rattle.plat_base.specs.Decide.{is_frame}
-use Rattle.plat_base.specs.Rules.{entry_of_access, is_grant_of, is_granted, is_legal, is_access_next, is_ordered_access, next_operation, unless, first_rule, bad_rule, bad_at}
+use Rattle.plat_base.specs.Rules.{entry_of_access, is_grant_of, is_granted, is_legal, is_access_next, is_ordered_access, next_operation}
+use Rattle.plat_base.specs.Rules.{unless, first_rule, bad_rule, bad_at}
 use Rattle.plat_base.specs.Histories.{IsByGrant}
 use Rattle.plat_base.specs.declared.items.Access.{Access}
 use Rattle.plat_base.specs.declared.items.Item.{Item}
@@ -24,20 +25,22 @@ use Rattle.plat_base.specs.declared.statuses.Bad.{Bad}
 use Rattle.plat_laws.proofs.SameLaws.{same_frame-true}
 use Rattle.plat_laws.proofs.ReachLaws.{HasEntry, IsOfEntry}
 use Rattle.plat_laws.proofs.ChangeLaws.{next_operation-entry}
-
--- an item breaks no rule and none behind it does
-pub both_here : (n : ℕ) (r : Option Rule) (rest : Option Bad) → bad_at n r rest ≡ None → (r ≡ None) × (rest ≡ None)
-both_here n None rest h = (refl, h)
-both_here n (Some r) rest h = absurd cc
+use Rattle.plat_base.proofs.RuleLemmas.{unless-none, first_rule-none}
 
 -- the parts of a legal access
-pub legal-parts : (m : Machine) (before : List Item) (a : Access) → is_legal m before a ≡ true → (a.page < m.pages) × (a.old ≡ flat_value m before a.page a.word)
+pub legal-parts : (m : Machine) (before : List Item) (a : Access) → is_legal m before a ≡ true →
+    (a.page < m.pages) × (a.old ≡ flat_value m before a.page a.word)
 legal-parts m before a h =
-    let three = and_parts (nat_lt a.page m.pages && nat_lt a.word m.words && a.old == flat_value m before a.page a.word) (a.version == flat_writes before a.page a.word + writes_made a.kind) h in
+    let three = and_parts (nat_lt a.page m.pages && nat_lt a.word m.words && a.old == flat_value m before a.page a.word)
+    (a.version == flat_writes before a.page a.word + writes_made a.kind) h in
     let two = and_parts (nat_lt a.page m.pages && nat_lt a.word m.words) (a.old == flat_value m before a.page a.word) three.0
-    in (ltb-true a.page m.pages (and_parts (nat_lt a.page m.pages) (nat_lt a.word m.words) two.0).0, eqb-true a.old (flat_value m before a.page a.word) two.1)
+    in (
+      ltb-true a.page m.pages (and_parts (nat_lt a.page m.pages) (nat_lt a.word m.words) two.0).0,
+      eqb-true a.old (flat_value m before a.page a.word) two.1,
+    )
 
-of_entry : {m : Machine} {e s d p space addr page : ℕ} → s ≡ space → d ≡ addr → p ≡ page → IsOfEntry m s d p e → IsOfEntry m space addr page e
+of_entry : {m : Machine} {e s d p space addr page : ℕ} → s ≡ space → d ≡ addr → p ≡ page → IsOfEntry m s d p e →
+    IsOfEntry m space addr page e
 of_entry {m = m} i j k h = record {
   found = rw (← i, ← j) h.found;
   of_page = h.of_page ∙ k;
@@ -45,28 +48,31 @@ of_entry {m = m} i j k h = record {
 
 -- ---- an access that breaks no rule
 
-pub kept_rule : (ok : Bool) (r : Rule) → unless ok r ≡ None → ok ≡ true
-kept_rule true r h = refl
-kept_rule false r h = absurd cc
-
-first_none : (a b : Option Rule) → first_rule a b ≡ None → (a ≡ None) × (b ≡ None)
-first_none None b h = (refl, h)
-first_none (Some r) b h = absurd cc
-
 module _ (m : Machine) (answer : Answer) (before : List Item) (a : Access) (kept : bad_rule m answer before (item.Access a) ≡ None) where
   pub access_parts : (is_ordered_access m before a ≡ true) × (is_granted m before a ≡ true) × (is_legal m before a ≡ true)
   access_parts =
-      let all = first_none (unless (is_ordered_access m before a) rule.Order) (first_rule (unless (is_granted m before a) rule.Grant) (unless (is_legal m before a) rule.Legal)) kept
-      in let two = first_none (unless (is_granted m before a) rule.Grant) (unless (is_legal m before a) rule.Legal) all.1
-      in (kept_rule (is_ordered_access m before a) rule.Order all.0, kept_rule (is_granted m before a) rule.Grant two.0, kept_rule (is_legal m before a) rule.Legal two.1)
+      let all = first_rule-none (unless (is_ordered_access m before a) rule.Order)
+      (first_rule (unless (is_granted m before a) rule.Grant) (unless (is_legal m before a) rule.Legal)) kept
+      in let two = first_rule-none (unless (is_granted m before a) rule.Grant) (unless (is_legal m before a) rule.Legal) all.1
+      in (
+        unless-none (is_ordered_access m before a) rule.Order all.0,
+        unless-none (is_granted m before a) rule.Grant two.0,
+        unless-none (is_legal m before a) rule.Legal two.1,
+      )
 
   -- nothing took its translation away
-  pub not_removed : (later removes_all before a.page a.grant ≡ false) × (is_write a.kind ≡ true → later removes_writes before a.page a.grant ≡ false)
+  pub not_removed : (later removes_all before a.page a.grant ≡ false)
+      × (is_write a.kind ≡ true → later removes_writes before a.page a.grant ≡ false)
   not_removed =
       let t = held_through m before a.actor (entry_of_access m a)
-      in let one = and_parts (is_grant_of a t && has_right a.kind t && not (later removes_all before a.page a.grant)) (not (is_write a.kind && later removes_writes before a.page a.grant)) access_parts.1
+      in let one = and_parts (is_grant_of a t && has_right a.kind t && not (later removes_all before a.page a.grant))
+      (not (is_write a.kind && later removes_writes before a.page a.grant)) access_parts.1
       in let two = and_parts (is_grant_of a t && has_right a.kind t) (not (later removes_all before a.page a.grant)) one.0
-      in (not-true (later removes_all before a.page a.grant) two.1, λ writes. both_false (is_write a.kind) (later removes_writes before a.page a.grant) writes (not-true (is_write a.kind && later removes_writes before a.page a.grant) one.1))
+      in (
+        not-true (later removes_all before a.page a.grant) two.1,
+        λ writes. both_false (is_write a.kind) (later removes_writes before a.page a.grant) writes
+            (not-true (is_write a.kind && later removes_writes before a.page a.grant) one.1),
+      )
     where
       both_false : (x y : Bool) → x ≡ true → (x && y) ≡ false → y ≡ false
       both_false true y h k = k
@@ -77,20 +83,27 @@ module _ (m : Machine) (answer : Answer) (before : List Item) (a : Access) (kept
   entry_of = by (next_operation m before a.actor) (next_operation-entry m before a.actor) next
     where
       next : is_access_next (next_operation m before a.actor) a ≡ true
-      next = (and_parts (nat_lt a.actor m.nodes && is_frame m a.frame) (is_access_next (next_operation m before a.actor) a) access_parts.0).1
+      next = (and_parts (nat_lt a.actor m.nodes && is_frame m a.frame) (is_access_next (next_operation m before a.actor) a)
+          access_parts.0).1
 
-      by : (o : Option Operation) → ((x : Operation) → o ≡ Some x → HasEntry m x) → is_access_next o a ≡ true → (e : ℕ) × IsOfEntry m a.space a.addr a.page e
+      by : (o : Option Operation) → ((x : Operation) → o ≡ Some x → HasEntry m x) → is_access_next o a ≡ true →
+          (e : ℕ) × IsOfEntry m a.space a.addr a.page e
       by None all h = absurd cc
       by (Some (Switches space)) all h = absurd cc
       by (Some (Reaches r)) all h =
           let kinds = same_kind r.kind a.kind in
-          let five = and_parts (kinds && r.space == a.space && r.addr == a.addr && r.page == a.page && r.word == a.word) (a.new == new_value r.kind a.old r.operand) h in
+          let five = and_parts (kinds && r.space == a.space && r.addr == a.addr && r.page == a.page && r.word == a.word)
+          (a.new == new_value r.kind a.old r.operand) h in
           let four = and_parts (kinds && r.space == a.space && r.addr == a.addr && r.page == a.page) (r.word == a.word) five.0 in
           let three = and_parts (kinds && r.space == a.space && r.addr == a.addr) (r.page == a.page) four.0 in
           let two = and_parts (kinds && r.space == a.space) (r.addr == a.addr) three.0 in
           let one = and_parts kinds (r.space == a.space) two.0 in
           let reached = all (Reaches r) refl
-          in (reached.0, of_entry (eqb-true r.space a.space one.1) (eqb-true r.addr a.addr two.1) (eqb-true r.page a.page three.1) reached.1)
+          in (
+            reached.0,
+            of_entry (eqb-true r.space a.space one.1) (eqb-true r.addr a.addr two.1) (eqb-true r.page a.page three.1)
+                reached.1,
+          )
 
   abbrev holds : Option Translation
   holds = held_through m before a.actor (entry_of_access m a)
@@ -104,10 +117,13 @@ module _ (m : Machine) (answer : Answer) (before : List Item) (a : Access) (kept
 
       two : (is_grant_of a holds ≡ true) × (has_right a.kind holds ≡ true)
       two =
-          let one = and_parts (is_grant_of a holds && has_right a.kind holds && not (later removes_all before a.page a.grant)) (not (is_write a.kind && later removes_writes before a.page a.grant)) access_parts.1
-          in and_parts (is_grant_of a holds) (has_right a.kind holds) (and_parts (is_grant_of a holds && has_right a.kind holds) (not (later removes_all before a.page a.grant)) one.0).0
+          let one = and_parts (is_grant_of a holds && has_right a.kind holds && not (later removes_all before a.page a.grant))
+          (not (is_write a.kind && later removes_writes before a.page a.grant)) access_parts.1
+          in and_parts (is_grant_of a holds) (has_right a.kind holds)
+          (and_parts (is_grant_of a holds && has_right a.kind holds) (not (later removes_all before a.page a.grant)) one.0).0
 
-      by : (o : Option Translation) → held m before a.actor entry_of.0 ≡ o → is_grant_of a o ≡ true → has_right a.kind o ≡ true → IsByGrant m before a
+      by : (o : Option Translation) → held m before a.actor entry_of.0 ≡ o → is_grant_of a o ≡ true → has_right a.kind o ≡ true →
+          IsByGrant m before a
       by None is h r = absurd cc
       by (Some t) is h r =
           let both = and_parts (same_frame t.grant.frame a.frame) (t.seq == a.grant) h

@@ -1,5 +1,6 @@
 -- what is known of a change that breaks no rule: the facts of the table, said of the change and the items before it
-use Rattle.std.specs.Prelude.{◌≡◌, ◌≢◌, ◌⊎◌, ℕ, ◌<◌, ◌==◌, nat_lt, ◌&&◌, not, is_none, if◌then◌else◌, unwrap_or, Bool, true, false, List, [], ◌∷◌, ◌++◌, length, Option, Some, None}
+use Rattle.std.specs.Prelude.{◌≡◌, ◌≢◌, ◌⊎◌, ℕ, ◌<◌, ◌==◌, nat_lt, ◌&&◌, not, is_none, if◌then◌else◌, unwrap_or, Bool, true, false, List}
+use Rattle.std.specs.Prelude.{[], ◌∷◌, ◌++◌, length, Option, Some, None}
 use Rattle.std.proofs.Common.{refl, ap, sym, ◌∙◌, subst, inl, inr}
 use Rattle.std.proofs.lemmas.Bool.{and_parts, eqb-true, ltb-true}
 use Rattle.plat_base.specs.Verdicts.{Answer}
@@ -13,7 +14,8 @@ use Rattle.plat_base.specs.Copies.{copy_on, same_frame}
 use Rattle.plat_base.specs.Alike.{same_action, same_removed, same_dir, same_cause, same_right}
 use Rattle.plat_base.specs.Decide.{is_dir, is_empty, decide, may_decide}
 use Rattle.plat_base.specs.Accesses.{cause_of, right_of}
-use Rattle.plat_base.specs.Rules.{next_operation, names_got, got_named, is_decided, is_fault_of, is_fault_decision, is_fault_change, has_daemon, is_thaw_change, is_chained}
+use Rattle.plat_base.specs.Rules.{next_operation, names_got, got_named, is_decided, is_fault_of, is_fault_decision, is_fault_change}
+use Rattle.plat_base.specs.Rules.{has_daemon, is_thaw_change, is_chained}
 use Rattle.plat_base.specs.declared.frames.Frame.{Frame}
 use Rattle.plat_base.specs.declared.frames.Dir.{Dir}
 use Rattle.plat_base.specs.declared.frames.State.TheVariants as state
@@ -83,7 +85,8 @@ right_of-write cause.Write h = refl
 right_of-write cause.Thaw h = absurd cc
 
 -- a frame that was got is one that the change took
-took : (c : Change) (g : Grant) (f : Frame) (b : Bool) → c.granted ≡ Some g → names_got c.action ≡ b → (if b then Some g.frame else None) ≡ Some f → Took c f
+took : (c : Change) (g : Grant) (f : Frame) (b : Bool) → c.granted ≡ Some g → names_got c.action ≡ b → (if b then Some g.frame else None)
+    ≡ Some f → Took c f
 took c g f true granted named h = record { grant = g; is = granted; named = named; frame = cc }
 took c g f false granted named h = absurd cc
 
@@ -118,17 +121,21 @@ fault_of-facts m c g d page granted same frame right facts = record {
     }
 
 -- the operation of a fault has the page of the granted entry and the cause of the change
-fault_of-parts : (m : Machine) (items : List Item) (c : Change) (g : Grant) (o : Option Operation) → ((x : Operation) → o ≡ Some x → HasEntry m x)
+fault_of-parts : (m : Machine) (items : List Item) (c : Change) (g : Grant) (o : Option Operation) →
+    ((x : Operation) → o ≡ Some x → HasEntry m x)
     → is_fault_of m items c g o ≡ true → (page_of m g.entry ≡ c.page) × (c.cause ≢ cause.Thaw)
 fault_of-parts m items c g None all h = absurd cc
 fault_of-parts m items c g (Some (Switches space)) all h = absurd cc
 fault_of-parts m items c g (Some (Reaches r)) all h =
-    let four = and_parts (nat_lt g.entry (length m.entries) && g.entry == entry_reached m r.space r.addr && r.page == c.page && same_cause (cause_of r.kind) c.cause) (not (has_right r.kind (held m items c.actor g.entry))) h in
-    let three = and_parts (nat_lt g.entry (length m.entries) && g.entry == entry_reached m r.space r.addr && r.page == c.page) (same_cause (cause_of r.kind) c.cause) four.0 in
+    let four = and_parts (nat_lt g.entry (length m.entries) && g.entry == entry_reached m r.space r.addr && r.page == c.page
+    && same_cause (cause_of r.kind) c.cause) (not (has_right r.kind (held m items c.actor g.entry))) h in
+    let three = and_parts (nat_lt g.entry (length m.entries) && g.entry == entry_reached m r.space r.addr && r.page == c.page)
+    (same_cause (cause_of r.kind) c.cause) four.0 in
     let two = and_parts (nat_lt g.entry (length m.entries) && g.entry == entry_reached m r.space r.addr) (r.page == c.page) three.0 in
     let one = and_parts (nat_lt g.entry (length m.entries)) (g.entry == entry_reached m r.space r.addr) two.0 in
     let reached = all (Reaches r) refl in
-    let entry : g.entry ≡ reached.0 = eqb-true g.entry (entry_reached m r.space r.addr) one.1 ∙ ap (λ o. unwrap_or o (length m.entries)) reached.1.found in
+    let entry : g.entry ≡ reached.0 = eqb-true g.entry (entry_reached m r.space r.addr) one.1
+    ∙ ap (λ o. unwrap_or o (length m.entries)) reached.1.found in
     let cause = same_cause-true (cause_of r.kind) c.cause three.1
     in (ap (page_of m) entry ∙ (reached.1.of_page ∙ eqb-true r.page c.page two.1), λ thaw. cause_of-fault r.kind (cause ∙ thaw))
 
@@ -144,8 +151,10 @@ fault_change-facts m answer items c (Some g) granted h =
     let d = decide m answer c.before last c.time c.actor c.cause got in
     let both = and_parts (is_fault_of m items c g (next_operation m items c.actor)) (is_fault_decision m answer items c g) h in
     let fault = fault_of-parts m items c g (next_operation m items c.actor) (next_operation-entry m items c.actor) both.0 in
-    let three = and_parts (may_decide m answer c.before last c.time c.actor c.cause got && is_decided d c && same_frame d.frame g.frame) (same_right g.right (right_of c.cause)) both.1 in
-    let two = and_parts (may_decide m answer c.before last c.time c.actor c.cause got && is_decided d c) (same_frame d.frame g.frame) three.0 in
+    let three = and_parts (may_decide m answer c.before last c.time c.actor c.cause got && is_decided d c && same_frame d.frame g.frame)
+    (same_right g.right (right_of c.cause)) both.1 in
+    let two = and_parts (may_decide m answer c.before last c.time c.actor c.cause got && is_decided d c) (same_frame d.frame g.frame)
+    three.0 in
     let one = and_parts (may_decide m answer c.before last c.time c.actor c.cause got) (is_decided d c) two.0
     in fault_of-facts m c g d fault.0 granted (is_of d c one.1) (same_frame-true d.frame g.frame two.1)
     (same_right-true g.right (right_of c.cause) three.1) (decide_facts m answer c.before last c.time c.actor c.cause got fault.1 one.0)
@@ -168,7 +177,8 @@ thaw_of-facts m c d none same facts = record {
   granted = λ g h. absurd cc;
 }
 
-thaw_change-facts : (m : Machine) (answer : Answer) (items : List Item) (c : Change) → is_thaw_change m answer items c ≡ true → ChangeFacts m c.before c
+thaw_change-facts : (m : Machine) (answer : Answer) (items : List Item) (c : Change) → is_thaw_change m answer items c ≡ true →
+    ChangeFacts m c.before c
 thaw_change-facts m answer items c h =
     let last = last_of items c.page in
     let d = decide m answer c.before last c.time c.actor cause.Thaw None in
@@ -187,7 +197,8 @@ either_facts : (m : Machine) (answer : Answer) (items : List Item) (c : Change) 
     → (if b then is_fault_change m answer items c c.granted else c.actor == m.nodes && is_thaw_change m answer items c) ≡ true
     → ChangeFacts m c.before c
 either_facts m answer items c true h = fault_change-facts m answer items c c.granted refl h
-either_facts m answer items c false h = thaw_change-facts m answer items c (and_parts (c.actor == m.nodes) (is_thaw_change m answer items c) h).1
+either_facts m answer items c false h =
+    thaw_change-facts m answer items c (and_parts (c.actor == m.nodes) (is_thaw_change m answer items c) h).1
 
 -- a change that follows these items
 pub record IsGoodChange (m : Machine) (items : List Item) (c : Change) : Type 0 where
@@ -196,9 +207,11 @@ pub record IsGoodChange (m : Machine) (items : List Item) (c : Change) : Type 0 
   pub before : c.before ≡ dir_of items c.page
   pub facts : ChangeFacts m (dir_of items c.page) c
 
-pub good_change : (m : Machine) (answer : Answer) (items : List Item) (c : Change) → is_chained m answer items c ≡ true → IsGoodChange m items c
+pub good_change : (m : Machine) (answer : Answer) (items : List Item) (c : Change) → is_chained m answer items c ≡ true →
+    IsGoodChange m items c
 good_change m answer items c h =
-    let cause = if nat_lt c.actor m.nodes then is_fault_change m answer items c c.granted else c.actor == m.nodes && is_thaw_change m answer items c in
+    let cause = if nat_lt c.actor m.nodes then is_fault_change m answer items c c.granted else c.actor == m.nodes
+    && is_thaw_change m answer items c in
     let three = and_parts (nat_lt c.page m.pages && c.seq == seq_of items c.page && same_dir c.before (dir_of items c.page)) cause h in
     let two = and_parts (nat_lt c.page m.pages && c.seq == seq_of items c.page) (same_dir c.before (dir_of items c.page)) three.0 in
     let one = and_parts (nat_lt c.page m.pages) (c.seq == seq_of items c.page) two.0 in

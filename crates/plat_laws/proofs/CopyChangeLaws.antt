@@ -1,5 +1,6 @@
 -- a change that breaks no rule keeps what is said of copies; and so does each item of a good history
-use Rattle.std.specs.Prelude.{◌≡◌, ◌≢◌, ◌⊎◌, ℕ, ◌+◌, ◌<◌, ◌==◌, nat_lt, ◌&&◌, if◌then◌else◌, Bool, true, false, List, [], ◌∷◌, ◌++◌, Option, Some, None}
+use Rattle.std.specs.Prelude.{◌≡◌, ◌≢◌, ◌⊎◌, ℕ, ◌+◌, ◌<◌, ◌==◌, nat_lt, ◌&&◌, if◌then◌else◌, Bool, true, false, List, [], ◌∷◌, ◌++◌, Option}
+use Rattle.std.specs.Prelude.{Some, None}
 use Rattle.std.proofs.Common.{refl, ap, sym, ◌∙◌, subst, inl, inr, arith}
 use Rattle.std.proofs.lemmas.Bool.{or_parts, eqb-true, eq-eqb, lt-ltb, true≢false}
 use Rattle.std.proofs.lemmas.List.{append_assoc, append-nil}
@@ -29,8 +30,10 @@ use Rattle.plat_base.proofs.CopiesLemmas.{same_frame-itself}
 use Rattle.plat_laws.proofs.ItemLaws.{or-false, dir_of-change, seq_of-change, later-change, flat_value-change, held-change}
 use Rattle.plat_laws.proofs.TableLaws.{copy_on-nearest, dir_parts, has_some}
 use Rattle.plat_laws.proofs.ChangeLaws.{Took, IsGoodChange, good_change, ChangeFacts}
-use Rattle.plat_laws.proofs.AccessLaws.{kept_rule, both_here, not_removed, by_grant}
-use Rattle.plat_laws.proofs.CopyLaws.{HoldsFlat, Leads, IsCurrent, IsLeft, all_left, lowered_left, like_page, like_leads, put_holds, copy_value-append, at_copy, current-start, current-access, current-applied, current-switch}
+use Rattle.plat_laws.proofs.AccessLaws.{not_removed, by_grant}
+use Rattle.plat_laws.proofs.CopyLaws.{HoldsFlat, Leads, IsCurrent, IsLeft, all_left, lowered_left, like_page, like_leads, put_holds}
+use Rattle.plat_laws.proofs.CopyLaws.{copy_value-append, at_copy, current-start, current-access, current-applied, current-switch}
+use Rattle.plat_base.proofs.RuleLemmas.{unless-none, bad_at-none}
 
 -- ---- what a change leaves held
 
@@ -66,7 +69,8 @@ held_from : (m : Machine) (c : Change) (q entry : ℕ) (o : Option Translation) 
     → held_after m q entry o (item.Change c) ≡ Some u → IsFrom c entry o u
 held_from m c q entry o u h = by (c.actor == q) h
   where
-    by : (b : Bool) → (if b then granted_to entry c.seq c.granted (if page_of m entry == c.page then kept_of c.removed o else o) else o) ≡ Some u → IsFrom c entry o u
+    by : (b : Bool) → (if b then granted_to entry c.seq c.granted (if page_of m entry == c.page then kept_of c.removed o else o) else o)
+        ≡ Some u → IsFrom c entry o u
     by true h =
         granted_from c entry c.granted (if page_of m entry == c.page then kept_of c.removed o else o) o u refl h
         (λ e. kept_where (page_of m entry == c.page) c.removed o u e)
@@ -93,7 +97,9 @@ no_name c f a is none took = true≢false (sym took.named ∙ (ap names_got is �
 
 -- where each copy before it holds this value, and an empty page's starting value is it, each copy after it does, if what it puts
 -- into frames goes by these words
-module _ (m : Machine) (b : Dir) (c : Change) (facts : ChangeFacts m b c) (dir : is_dir m b ≡ true) (w target : ℕ) (words : InFrames) (start : is_empty b.state ≡ true → initial_value m c.page w ≡ target) (was_copy : (f : Frame) → copy_on f.module b.copies ≡ Some f → words f ≡ target) where
+module _ (m : Machine) (b : Dir) (c : Change) (facts : ChangeFacts m b c) (dir : is_dir m b ≡ true) (w target : ℕ) (words : InFrames)
+    (start : is_empty b.state ≡ true → initial_value m c.page w ≡ target) (was_copy : (f : Frame) → copy_on f.module b.copies ≡ Some f →
+    words f ≡ target) where
   nearest_copy : c.before ≡ b → is_empty b.state ≡ false → words (nearest m c.actor c.before.copies) ≡ target
   nearest_copy same e =
       let near = copy_on-nearest m c.actor b.copies (has_some m b dir e) (dir_parts m b dir).1
@@ -110,7 +116,8 @@ module _ (m : Machine) (b : Dir) (c : Change) (facts : ChangeFacts m b c) (dir :
 
     -- with the frame that it took, the copies hold that value
     took_one : (g : Grant) (v : ℕ) → c.granted ≡ Some g → v ≡ target → put g.frame v words f ≡ target
-    took_one g v granted value = put_holds g.frame f v target words value (λ other. nothing_took (λ took. not_took c f g granted other took))
+    took_one g v granted value = put_holds g.frame f v target words value
+        (λ other. nothing_took (λ took. not_took c f g granted other took))
 
     by_action : (g : Grant) (a : Action) → c.granted ≡ Some g → c.action ≡ a → c.before ≡ b → put_by m c.page w c a g.frame words f ≡ target
     by_action g action.Fill granted is same = took_one g (initial_value m c.page w) granted (start (facts.fills is))
@@ -150,7 +157,8 @@ module _ (m : Machine) (xs : List Item) (c : Change) (k : IsCurrent m xs) (h : I
   words_own : (w : ℕ) (f : Frame) → copy_value m ys c.page w f ≡ put_granted m c.page w c c.granted (copy_value m xs c.page w) f
   words_own w f =
       copy_value-append m xs (item.Change c) c.page w f
-      ∙ ap (λ (b : Bool). (if b then put_granted m c.page w c c.granted (copy_value m xs c.page w) else copy_value m xs c.page w) f) (eq-eqb c.page c.page refl)
+      ∙ ap (λ (b : Bool). (if b then put_granted m c.page w c c.granted (copy_value m xs c.page w) else copy_value m xs c.page w) f)
+      (eq-eqb c.page c.page refl)
 
   own_page : HoldsFlat m ys c.page
   own_page = record {
@@ -193,8 +201,10 @@ module _ (m : Machine) (xs : List Item) (c : Change) (k : IsCurrent m xs) (h : I
     split : (test : Removed → Bool) → later test ys c.page u.seq ≡ false → (later test xs c.page t.seq ≡ false) × (test c.removed ≡ false)
     split test l =
         let older : u.seq < c.seq = omega (arith, left.seq, leads.below, h.seq) in
-        let both = or_parts (later test xs c.page u.seq) (c.page == c.page && nat_lt u.seq c.seq && test c.removed) (sym (later-change test xs c c.page u.seq) ∙ l) in
-        let there : (c.page == c.page && nat_lt u.seq c.seq && test c.removed) ≡ test c.removed = rw (eq-eqb c.page c.page refl, lt-ltb u.seq c.seq older) refl
+        let both = or_parts (later test xs c.page u.seq) (c.page == c.page && nat_lt u.seq c.seq && test c.removed)
+        (sym (later-change test xs c c.page u.seq) ∙ l) in
+        let there : (c.page == c.page && nat_lt u.seq c.seq && test c.removed) ≡ test c.removed =
+        rw (eq-eqb c.page c.page refl, lt-ltb u.seq c.seq older) refl
         in (ap (later test xs c.page) (sym left.seq) ∙ both.0, sym there ∙ both.1)
 
     not_all : removes_all c.removed ≡ false → c.removed ≢ removed.All
@@ -241,19 +251,21 @@ module _ (m : Machine) (xs : List Item) (c : Change) (k : IsCurrent m xs) (h : I
 
 -- ---- the items of a good history
 
-pub current-item : (m : Machine) (answer : Answer) (xs : List Item) (i : Item) → bad_rule m answer xs i ≡ None → IsCurrent m xs → IsCurrent m (xs ++ i ∷ [])
+pub current-item : (m : Machine) (answer : Answer) (xs : List Item) (i : Item) → bad_rule m answer xs i ≡ None → IsCurrent m xs →
+    IsCurrent m (xs ++ i ∷ [])
 current-item m answer xs (item.Access a) h k =
     let kept = not_removed m answer xs a h
     in current-access m xs a (at_copy m xs a k (by_grant m answer xs a h) kept.0 kept.1) k
 current-item m answer xs (item.Change c) h k =
-    current-change m xs c k (good_change m answer xs c (kept_rule (is_chained m answer xs c) rule.Chain h))
+    current-change m xs c k (good_change m answer xs c (unless-none (is_chained m answer xs c) rule.Chain h))
 current-item m answer xs (item.Applied x) h k = current-applied m xs x k
 current-item m answer xs (item.Switch s) h k = current-switch m xs s k
 
-pub current-items : (m : Machine) (answer : Answer) (xs : List Item) (n : ℕ) (is : List Item) → bad_after m answer xs n is ≡ None → IsCurrent m xs → IsCurrent m (xs ++ is)
+pub current-items : (m : Machine) (answer : Answer) (xs : List Item) (n : ℕ) (is : List Item) → bad_after m answer xs n is ≡ None →
+    IsCurrent m xs → IsCurrent m (xs ++ is)
 current-items m answer xs n [] h k = rw append-nil k
 current-items m answer xs n (i ∷ is) h k =
-    let both = both_here n (bad_rule m answer xs i) (bad_after m answer (xs ++ i ∷ []) (n + 1) is) h
+    let both = bad_at-none n (bad_rule m answer xs i) (bad_after m answer (xs ++ i ∷ []) (n + 1) is) h
     in subst (IsCurrent m) (append_assoc xs (i ∷ []) is)
     (current-items m answer (xs ++ i ∷ []) (n + 1) is both.1 (current-item m answer xs i both.0 k))
 

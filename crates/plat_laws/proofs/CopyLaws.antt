@@ -29,7 +29,9 @@ use Rattle.plat_base.specs.declared.items.Switch.{Switch}
 use Rattle.plat_base.specs.declared.items.Item.{Item}
 use Rattle.plat_base.specs.declared.items.Item.TheVariants as item
 use Rattle.plat_base.proofs.CopiesLemmas.{same_frame-itself}
-use Rattle.plat_laws.proofs.ItemLaws.{dir_of-access, dir_of-applied, dir_of-switch, seq_of-access, seq_of-applied, seq_of-switch, later-access, later-applied, later-switch, flat_value-append, flat_value-applied, flat_value-switch, held-append, held-access, held-switch}
+use Rattle.plat_laws.proofs.ItemLaws.{dir_of-access, dir_of-applied, dir_of-switch, seq_of-access, seq_of-applied, seq_of-switch}
+use Rattle.plat_laws.proofs.ItemLaws.{later-access, later-applied, later-switch, flat_value-append, flat_value-applied, flat_value-switch}
+use Rattle.plat_laws.proofs.ItemLaws.{held-append, held-access, held-switch}
 use Rattle.plat_laws.proofs.TableLaws.{copy_on-empty, dir_parts}
 
 -- what holds of a page: its directory is one that it can have, while empty nobody wrote to it, and each of its copies holds
@@ -56,7 +58,8 @@ pub record IsCurrent (m : Machine) (items : List Item) : Type 0 where
 
 -- ---- what reads the same
 
-pub copy_value-append : (m : Machine) (xs : List Item) (i : Item) (p w : ℕ) (f : Frame) → copy_value m (xs ++ i ∷ []) p w f ≡ words_after m p w (copy_value m xs p w) i f
+pub copy_value-append : (m : Machine) (xs : List Item) (i : Item) (p w : ℕ) (f : Frame) → copy_value m (xs ++ i ∷ []) p w f
+    ≡ words_after m p w (copy_value m xs p w) i f
 copy_value-append m xs i p w f = ap (λ (words : InFrames). words f) (fold-append (words_after m p w) (λ g. 0) xs (i ∷ []))
 
 pub like_page :
@@ -103,7 +106,8 @@ current-start m = record {
 -- ---- an applied message, and a switch
 
 -- lowered to the right to read, with whatever mark
-pub lowered_left : (t u : Translation) (mark : Bool) → Some (record { grant = to_read t.grant; seq = t.seq; restricted = mark }) ≡ Some u → IsLeft t u
+pub lowered_left : (t u : Translation) (mark : Bool) → Some (record { grant = to_read t.grant; seq = t.seq; restricted = mark }) ≡ Some u →
+    IsLeft t u
 lowered_left t u mark h = subst (IsLeft t) same (record { seq = refl; frame = refl; write = λ r. absurd cc })
   where
     same : record { grant = to_read t.grant; seq = t.seq; restricted = mark } ≡ u
@@ -115,7 +119,8 @@ told_left message.Restrict None u h = absurd cc
 told_left message.Restrict (Some t) u h = (t, refl, lowered_left t u true h)
 
 -- what is held after an item is what was held, or what is left of it
-after_message : (mine : Bool) (msg : Message) (o : Option Translation) (u : Translation) → (if mine then told msg o else o) ≡ Some u → (t : Translation) × (o ≡ Some t) × IsLeft t u
+after_message : (mine : Bool) (msg : Message) (o : Option Translation) (u : Translation) → (if mine then told msg o else o) ≡ Some u →
+    (t : Translation) × (o ≡ Some t) × IsLeft t u
 after_message true msg o u h = told_left msg o u h
 after_message false msg o u h = (u, h, all_left u)
 
@@ -125,7 +130,8 @@ current-applied m xs x k = record {
       like_page m xs (xs ++ item.Applied x ∷ []) p (dir_of-applied xs (item.Applied x ∷ []) p refl)
       (λ w. flat_value-applied m xs (item.Applied x ∷ []) p w refl) (λ w f. copy_value-append m xs (item.Applied x) p w f) (k.page p);
   leads = λ q e u h.
-      let before = after_message (x.actor == q && x.entry == e) x.message (held m xs q e) u (sym (held-append m xs (item.Applied x ∷ []) q e) ∙ h)
+      let before = after_message (x.actor == q && x.entry == e) x.message (held m xs q e) u
+      (sym (held-append m xs (item.Applied x ∷ []) q e) ∙ h)
       in like_leads xs (xs ++ item.Applied x ∷ []) (page_of m e) before.0 u (dir_of-applied xs (item.Applied x ∷ []) (page_of m e) refl)
       (seq_of-applied xs (item.Applied x ∷ []) (page_of m e) refl)
       (λ test. later-applied test xs (item.Applied x ∷ []) (page_of m e) before.0.seq refl) before.2 (k.leads q e before.0 before.1);
@@ -143,7 +149,8 @@ current-switch m xs s k = record {
 
 -- ---- a frame that gets a value
 
-pub put_holds : (f g : Frame) (v target : ℕ) (words : InFrames) → v ≡ target → (same_frame f g ≡ false → words g ≡ target) → put f v words g ≡ target
+pub put_holds : (f g : Frame) (v target : ℕ) (words : InFrames) → v ≡ target → (same_frame f g ≡ false → words g ≡ target) →
+    put f v words g ≡ target
 put_holds f g v target words h k = by (same_frame f g) refl
   where
     by : (b : Bool) → same_frame f g ≡ b → (if b then v else words g) ≡ target
@@ -165,9 +172,11 @@ one_copy (g ∷ []) f n h = by (g.module == f.module) h
     by : (b : Bool) → (if b then Some g else None) ≡ Some f → g ∷ [] ≡ f ∷ []
     by true e = let same : g ≡ f = cc in ap (λ x. x ∷ []) same
     by false e = absurd cc
-one_copy (g ∷ x ∷ xs) f n h = let two : (length (g ∷ x ∷ xs) == 1) ≡ false = ne_eqb (length (g ∷ x ∷ xs)) 1 (λ e. omega arith) in absurd (true≢false (sym n ∙ two))
+one_copy (g ∷ x ∷ xs) f n h = let two : (length (g ∷ x ∷ xs) == 1) ≡ false = ne_eqb (length (g ∷ x ∷ xs)) 1 (λ e. omega arith) in
+    absurd (true≢false (sym n ∙ two))
 
-pub only_copy : (m : Machine) (dir : Dir) (f : Frame) → is_dir m dir ≡ true → dir.state ≡ state.Modified → copy_on f.module dir.copies ≡ Some f → IsOnlyCopy dir f
+pub only_copy : (m : Machine) (dir : Dir) (f : Frame) → is_dir m dir ≡ true → dir.state ≡ state.Modified →
+    copy_on f.module dir.copies ≡ Some f → IsOnlyCopy dir f
 only_copy m dir f h s k = (s, one_copy dir.copies f (rw s at (dir_parts m dir h).2) k)
 
 writes-right : (k : Kind) (r : Right) → serves k r ≡ true → is_write k ≡ true → r ≡ right.Write
@@ -203,15 +212,18 @@ at_copy m items a k by all writes =
     (subst (λ (p : ℕ). Leads items p by.translation) by.of_page (k.leads a.actor by.entry by.translation by.holds))
     by.leads by.numbered by.right all writes
 
-pub flat_value-access : (m : Machine) (xs : List Item) (a : Access) (p w : ℕ) → flat_value m (xs ++ item.Access a ∷ []) p w ≡ if writes_word p w (item.Access a) then a.new else flat_value m xs p w
+pub flat_value-access : (m : Machine) (xs : List Item) (a : Access) (p w : ℕ) → flat_value m (xs ++ item.Access a ∷ []) p w
+    ≡ if writes_word p w (item.Access a) then a.new else flat_value m xs p w
 flat_value-access m xs a p w = flat_value-append m xs (item.Access a ∷ []) p w
 
 access-page :
     (m : Machine) (xs : List Item) (a : Access) (p : ℕ) → IsAtCopy xs a → HoldsFlat m xs p → HoldsFlat m (xs ++ item.Access a ∷ []) p
 access-page m xs a p h k = record {
   dir = ap (is_dir m) (dir_of-access xs a p) ∙ k.dir;
-  unwritten = λ w e. unwritten w (sym (ap (λ (x : Dir). is_empty x.state) (dir_of-access xs a p)) ∙ e) (writes_word p w (item.Access a)) refl;
-  words = λ w f e. words w f (sym (ap (λ (x : Dir). copy_on f.module x.copies) (dir_of-access xs a p)) ∙ e) (writes_word p w (item.Access a)) refl;
+  unwritten = λ w e. unwritten w (sym (ap (λ (x : Dir). is_empty x.state) (dir_of-access xs a p)) ∙ e) (writes_word p w (item.Access a))
+      refl;
+  words = λ w f e. words w f (sym (ap (λ (x : Dir). copy_on f.module x.copies) (dir_of-access xs a p)) ∙ e)
+      (writes_word p w (item.Access a)) refl;
 }
   where
     ys : List Item
@@ -223,14 +235,17 @@ access-page m xs a p h k = record {
         let two = and_parts (is_write a.kind) (a.page == p) all.0
         in (two.0, eqb-true a.page p two.1)
 
-    unwritten : (w : ℕ) → is_empty (dir_of xs p).state ≡ true → (b : Bool) → writes_word p w (item.Access a) ≡ b → flat_value m (xs ++ item.Access a ∷ []) p w ≡ initial_value m p w
+    unwritten : (w : ℕ) → is_empty (dir_of xs p).state ≡ true → (b : Bool) → writes_word p w (item.Access a) ≡ b →
+        flat_value m (xs ++ item.Access a ∷ []) p w ≡ initial_value m p w
     unwritten w e false n = flat_value-access m xs a p w ∙ (ap (λ (b : Bool). if b then a.new else flat_value m xs p w) n ∙ k.unwritten w e)
     unwritten w e true n =
         let none = copy_on-empty m (dir_of xs p) a.frame.module k.dir e in
-        let some : copy_on a.frame.module (dir_of xs p).copies ≡ Some a.frame = ap (λ (x : ℕ). copy_on a.frame.module (dir_of xs x).copies) (sym (to_page w n).1) ∙ h.copy
+        let some : copy_on a.frame.module (dir_of xs p).copies ≡ Some a.frame =
+        ap (λ (x : ℕ). copy_on a.frame.module (dir_of xs x).copies) (sym (to_page w n).1) ∙ h.copy
         in absurd cc
 
-    words : (w : ℕ) (f : Frame) → copy_on f.module (dir_of xs p).copies ≡ Some f → (b : Bool) → writes_word p w (item.Access a) ≡ b → copy_value m (xs ++ item.Access a ∷ []) p w f ≡ flat_value m (xs ++ item.Access a ∷ []) p w
+    words : (w : ℕ) (f : Frame) → copy_on f.module (dir_of xs p).copies ≡ Some f → (b : Bool) → writes_word p w (item.Access a) ≡ b →
+        copy_value m (xs ++ item.Access a ∷ []) p w f ≡ flat_value m (xs ++ item.Access a ∷ []) p w
     words w f e false n =
         copy_value-append m xs (item.Access a) p w f
         ∙ (ap (λ (b : Bool). (if b then put a.frame a.new (copy_value m xs p w) else copy_value m xs p w) f) n

@@ -1,10 +1,11 @@
 -- the ends of a guest, items that are none of a processor's, and when nothing is bad
-use Rattle.std.proofs.Common.{◌≡◌, ℕ, zero, suc, ◌+◌, ◌<◌, ◌≤◌, Bool, true, false, List, [], ◌∷◌, ◌++◌, length, Option, Some, None, refl, arith, add-one, add-zero, append_assoc, if◌then◌else◌}
+use Rattle.std.proofs.Common.{◌≡◌, ℕ, zero, suc, ◌+◌, ◌<◌, ◌≤◌, Bool, true, false, List, [], ◌∷◌, ◌++◌, length, Option, Some, None, refl}
+use Rattle.std.proofs.Common.{arith, add-one, if◌then◌else◌}
 use Rattle.std.specs.Prelude.{◌==◌, ◌&&◌, ◌||◌, not, nat_lt, ◌/◌}
 use Rattle.std.specs.List.{fold, filter_map, cons_option, list_any, find, range_with_len}
-use Rattle.std.proofs.lemmas.List.{append-nil}
 use Rattle.std.proofs.lemmas.List.Sums.{fold-append}
 use Rattle.std.proofs.lemmas.Bool.Decides.{nat_tests}
+use Rattle.std.proofs.lemmas.Bool.{and_from, or_left, or_parts}
 use Rattle.plat_base.specs.Verdicts.{Answer}
 use Rattle.plat_base.specs.Machine.{Machine}
 use Rattle.plat_base.specs.Pages.{entry_at, numbers}
@@ -13,7 +14,8 @@ use Rattle.plat_base.specs.Done.{Accessed, Switched, value_of, values_of, done_o
 use Rattle.plat_base.specs.Held.{active, active_after, has_right, held_through}
 use Rattle.plat_base.specs.Ends.{ended_of, is_live}
 use Rattle.plat_base.specs.Alike.{same_end}
-use Rattle.plat_base.specs.Rules.{stands, has_made, same_outcome, wants_right, wants_operation, is_end, is_in_order, bad_at, bad_or, bad_rule, bad_after, bad_ends, first_bad}
+use Rattle.plat_base.specs.Rules.{stands, has_made, same_outcome, wants_right, wants_operation, is_end, is_in_order, bad_at, bad_or}
+use Rattle.plat_base.specs.Rules.{bad_rule, bad_after, bad_ends, first_bad}
 use Rattle.plat_base.specs.declared.endings.End.{End}
 use Rattle.plat_base.specs.declared.endings.End.TheVariants as end
 use Rattle.plat_base.specs.declared.endings.Ended.{Ended}
@@ -26,6 +28,8 @@ use Rattle.plat_base.specs.declared.items.Kind.{Kind}
 use Rattle.plat_laws.specs.Guests.{IsGuest}
 use Rattle.plat_laws.proofs.Limits.{and-left, and-right}
 use Rattle.plat_laws.proofs.GuestLaws.{fewer_turns, guest_run-next_same, IsGuest-not_mine}
+use Rattle.plat_laws.proofs.ItemLaws.{bad_after-append}
+use Rattle.plat_base.proofs.ListLemmas.{find-range_none}
 
 -- ---- how a run stands
 
@@ -37,16 +41,10 @@ same_outcome-itself HasTrapped = refl
 stands-as : (r : GuestRun) (t : ℕ) (o : Outcome) → r.turns ≡ t → r.outcome ≡ o → stands r t o ≡ true
 stands-as r t o e f = rw (f, same_outcome-itself) (grind (arith, nat_tests))
 
-and-both : (b c : Bool) → b ≡ true → c ≡ true → (b && c) ≡ true
-and-both b c h k = rw (h, k)
-
-or-left : (b c : Bool) → b ≡ true → (b || c) ≡ true
-or-left b c h = rw h
-
 stands-made :
     (items : List Item) (q : ℕ) (r : GuestRun) (t : ℕ) (o : Outcome) → r.turns ≡ t → r.outcome ≡ o → has_made items q r ≡ true
     → (stands r t o && has_made items q r) ≡ true
-stands-made items q r t o e f h = and-both (stands r t o) (has_made items q r) (stands-as r t o e f) h
+stands-made items q r t o e f h = and_from (stands r t o) (has_made items q r) (stands-as r t o e f) h
 
 -- ---- the ends of a guest
 
@@ -70,8 +68,8 @@ pub is_end-spent : (m : Machine) (items : List Item) (t q : ℕ) → IsGuest m i
 is_end-spent m items t q g b =
     let r = guest_run m q (values_of q items) t in
     let spent : (t == m.budget) ≡ true = grind (arith, nat_tests) in
-    let one = and-both (t == m.budget) (stands r t GoesOn) spent (stands-as r t GoesOn g.made g.goes)
-    in and-both (t == m.budget && stands r t GoesOn) (has_made items q r) one g.done
+    let one = and_from (t == m.budget) (stands r t GoesOn) spent (stands-as r t GoesOn g.made g.goes)
+    in and_from (t == m.budget && stands r t GoesOn) (has_made items q r) one g.done
 
 pub is_end-cut : (m : Machine) (items : List Item) (t q : ℕ) → IsGuest m items t q → is_end m items q end.Cut t ≡ true
 is_end-cut m items zero q g = g.done
@@ -79,8 +77,8 @@ is_end-cut m items (suc t) q g =
     let before = guest_run m q (values_of q items) t in
     let whole = guest_run m q (values_of q items) (suc t) in
     let e = fewer_turns m q (values_of q items) t g.made in
-    let made = or-left (has_made items q whole) (wants_operation (want_of m q before.state) && has_made items q before) g.done
-    in and-both (stands before t GoesOn) (has_made items q whole || (wants_operation (want_of m q before.state) && has_made items q before))
+    let made = or_left (has_made items q whole) (wants_operation (want_of m q before.state) && has_made items q before) g.done
+    in and_from (stands before t GoesOn) (has_made items q whole || (wants_operation (want_of m q before.state) && has_made items q before))
     (stands-as before t GoesOn e.0 e.1) made
 
 pub is_end-no_frames :
@@ -130,16 +128,12 @@ is_by q (item.Change c) = c.actor == q
 is_by q (item.Applied x) = x.actor == q
 is_by q (item.Switch s) = s.actor == q
 
-or-none : (b c : Bool) → (b || c) ≡ false → (b ≡ false) × (c ≡ false)
-or-none true c h = absurd cc
-or-none false c h = (refl, h)
-
 filter_map-passed_over :
     {A B : Type 0} (f : A → Option B) (p : A → Bool) (xs : List A) → ((x : A) → p x ≡ false → f x ≡ None) → list_any p xs ≡ false
     → filter_map f xs ≡ []
 filter_map-passed_over f p [] k h = refl
 filter_map-passed_over f p (x ∷ xs) k h =
-    let e = or-none (p x) (list_any p xs) h in rw (k x e.0) (filter_map-passed_over f p xs k e.1)
+    let e = or_parts (p x) (list_any p xs) h in rw (k x e.0) (filter_map-passed_over f p xs k e.1)
 
 value_of-not_by : (q : ℕ) (i : Item) → is_by q i ≡ false → value_of q i ≡ None
 value_of-not_by q (item.Access a) h = rw h
@@ -216,18 +210,6 @@ bad_or-bad_at :
 bad_or-bad_at n None a b = refl
 bad_or-bad_at n (Some r) a b = refl
 
-pub bad_after-append :
-    (m : Machine) (answer : Answer) (before : List Item) (n : ℕ) (xs ys : List Item)
-    → bad_after m answer before n (xs ++ ys)
-    ≡ bad_or (bad_after m answer before n xs) (bad_after m answer (before ++ xs) (n + length xs) ys)
-bad_after-append m answer before n [] ys = rw (append-nil, add-zero)
-bad_after-append m answer before n (i ∷ xs) ys =
-    let seam : (before ++ i ∷ []) ++ xs ≡ before ++ i ∷ xs = append_assoc before (i ∷ []) xs in
-    let count : (n + 1) + length xs ≡ n + suc (length xs) = omega arith in
-    let rest = rw (seam, count) at (bad_after-append m answer (before ++ i ∷ []) (n + 1) xs ys)
-    in rw rest (bad_or-bad_at n (bad_rule m answer before i) (bad_after m answer (before ++ i ∷ []) (n + 1) xs)
-    (bad_after m answer (before ++ i ∷ xs) (n + suc (length xs)) ys))
-
 -- items none of which is bad, behind items none of which is bad
 pub bad_after-more :
     (m : Machine) (answer : Answer) (before : List Item) (n : ℕ) (xs ys : List Item)
@@ -241,12 +223,6 @@ pub bad_after-one :
 bad_after-one m answer before n i h = rw h
 
 -- ---- the ends of all
-
-find-range_none :
-    (p : ℕ → Bool) (a n : ℕ) → ((i : ℕ) → a ≤ i → i < a + n → p i ≡ false) → find p (range_with_len a n) ≡ None
-find-range_none p a zero h = refl
-find-range_none p a (suc n) h =
-    rw (h a (omega arith) (omega arith)) (find-range_none p (a + 1) n (λ i l k. h i (omega arith) (omega arith)))
 
 pub bad_ends-none :
     (m : Machine) (items : List Item) (ends : List Ended) → length ends ≡ m.nodes

@@ -21,7 +21,8 @@ goes_on HasHalted h = absurd cc
 goes_on HasTrapped h = absurd cc
 
 -- a spent processor has made its budget, and its guest goes on then
-spent_goes_on : (m : Machine) (items : List Item) (q turns : ℕ) → is_end m items q end.Spent turns ≡ true → (guest_run m q (values_of q items) m.budget).outcome ≡ GoesOn
+spent_goes_on : (m : Machine) (items : List Item) (q turns : ℕ) → is_end m items q end.Spent turns ≡ true →
+    (guest_run m q (values_of q items) m.budget).outcome ≡ GoesOn
 spent_goes_on m items q turns h =
     let r = guest_run m q (values_of q items) turns in
     let all = and_parts (turns == m.budget && stands r turns GoesOn) (has_made items q r) h in
@@ -29,10 +30,12 @@ spent_goes_on m items q turns h =
     let how = and_parts (r.turns == turns) (same_outcome r.outcome GoesOn) two.1 in
     subst (λ (t : ℕ). (guest_run m q (values_of q items) t).outcome ≡ GoesOn) (eqb-true turns m.budget two.0) (goes_on r.outcome how.1)
 
-pub not_spent : (m : Machine) (items : List Item) (ends : List Ended) (q : ℕ) → is_in_order m items ends q ≡ true → GuestEnds m items q → (ended_of ends q).end ≢ end.Spent
+pub not_spent : (m : Machine) (items : List Item) (ends : List Ended) (q : ℕ) → is_in_order m items ends q ≡ true → GuestEnds m items q →
+    (ended_of ends q).end ≢ end.Spent
 not_spent m items ends q order guest spent =
     let both = and_parts (nat_le (ended_of ends q).turns m.budget) (is_end m items q (ended_of ends q).end (ended_of ends q).turns) order in
-    guest (spent_goes_on m items q (ended_of ends q).turns (subst (λ (e : End). is_end m items q e (ended_of ends q).turns ≡ true) spent both.1))
+    guest (spent_goes_on m items q (ended_of ends q).turns
+    (subst (λ (e : End). is_end m items q e (ended_of ends q).turns ≡ true) spent both.1))
 
 -- a good history in which no processor lacks a frame without need is that of a coherent run
 pub coherent_run : (m : Machine) (answer : Answer) (items : List Item) (ends : List Ended) → Good m answer items ends

@@ -1,5 +1,6 @@
 -- the run of one guest: fewer and more turns, more values, the next operation, one more turn of it, and what an access reaches
-use Rattle.std.proofs.Common.{◌≡◌, ℕ, zero, suc, ◌+◌, ◌<◌, ◌≤◌, Bool, true, false, List, [], ◌∷◌, ◌++◌, length, Option, Some, None, refl, arith, add-one, add-zero, add-suc, append_assoc, sym, ◌-◌, if◌then◌else◌, get_or}
+use Rattle.std.proofs.Common.{◌≡◌, ℕ, zero, suc, ◌+◌, ◌<◌, ◌≤◌, Bool, true, false, List, [], ◌∷◌, ◌++◌, length, Option, Some, None, refl}
+use Rattle.std.proofs.Common.{arith, add-one, add-zero, add-suc, append_assoc, sym, ◌-◌, if◌then◌else◌, get_or}
 use Rattle.std.specs.Prelude.{slice_get, slice_index_or, is_some, ◌/◌, ◌%◌, ◌==◌, ◌&&◌, unwrap_or}
 use Rattle.std.specs.List.{position_from}
 use Rattle.std.proofs.lemmas.List.{append-nil, length-append}
@@ -7,8 +8,12 @@ use Rattle.std.proofs.lemmas.List.Elements.{filter_map-append}
 use Rattle.std.proofs.lemmas.Bool.Decides.{nat_tests}
 use Rattle.plat_base.specs.Machine.{Machine, Program}
 use Rattle.plat_base.specs.Pages.{program_of, entry_at, page_of, space_of, no_entry, entry_reached}
-use Rattle.plat_base.specs.GuestRun.{GuestRun, GuestState, Reach, Operation, Reaches, Switches, Outcome, GoesOn, HasHalted, HasTrapped, want_of, guest_after, values_taken, value_for, reach_of, with_turn, with_access, guest_does, guest_more, guest_run, passed, gone, executed, executed_next, wanted, wanted_next, address, register, target}
-use Rattle.plat_base.specs.Done.{Done, Accessed, Switched, value_of, values_of, done_of, operations_of, is_done_access, are_done, reads_word}
+use Rattle.plat_base.specs.GuestRun.{GuestRun, GuestState, Reach, Operation, Reaches, Switches, Outcome, GoesOn, HasHalted, HasTrapped}
+use Rattle.plat_base.specs.GuestRun.{want_of, guest_after, values_taken, value_for, reach_of, with_turn, with_access, guest_does}
+use Rattle.plat_base.specs.GuestRun.{guest_more, guest_run, passed, gone, executed, executed_next, wanted, wanted_next, address, register}
+use Rattle.plat_base.specs.GuestRun.{target}
+use Rattle.plat_base.specs.Done.{Done, Accessed, Switched, value_of, values_of, operations_of, is_done_access, are_done}
+use Rattle.plat_base.specs.Done.{reads_word}
 use Rattle.plat_base.specs.Held.{active}
 use Rattle.plat_base.specs.Rules.{next_operation}
 use Rattle.plat_laws.specs.Guests.{IsGuest, IsWithinLimits}
@@ -22,6 +27,8 @@ use Rattle.plat_base.specs.declared.guests.Want.{Want}
 use Rattle.plat_base.specs.declared.guests.Want.TheVariants as want
 use Rattle.plat_base.specs.declared.items.Kind.{Kind}
 use Rattle.plat_base.specs.declared.items.Kind.TheVariants as kind
+use Rattle.plat_laws.proofs.ItemLaws.{operations_of-append}
+use Rattle.plat_base.proofs.ListLemmas.{slice_get-append}
 
 -- ---- one turn
 
@@ -42,7 +49,8 @@ guest_more-turns m q vs r GoesOn = guest_does-turns m q vs r (want_of m q r.stat
 guest_more-turns m q vs r HasHalted = omega arith
 guest_more-turns m q vs r HasTrapped = omega arith
 
-guest_more-goes_on : (m : Machine) (q : ℕ) (vs : List ℕ) (r : GuestRun) (o : Outcome) → (guest_more m q vs r o).turns ≡ r.turns + 1 → o ≡ GoesOn
+guest_more-goes_on : (m : Machine) (q : ℕ) (vs : List ℕ) (r : GuestRun) (o : Outcome) → (guest_more m q vs r o).turns ≡ r.turns + 1 →
+    o ≡ GoesOn
 guest_more-goes_on m q vs r GoesOn h = refl
 guest_more-goes_on m q vs r HasHalted h = absurd (omega arith)
 guest_more-goes_on m q vs r HasTrapped h = absurd (omega arith)
@@ -64,11 +72,6 @@ fewer_turns m q vs t h =
     in (e, guest_more-goes_on m q vs r r.outcome (omega arith))
 
 -- ---- more values
-
-pub slice_get-append : {A : Type 0} (xs ys : List A) (i : ℕ) (x : A) → slice_get xs i ≡ Some x → slice_get (xs ++ ys) i ≡ Some x
-slice_get-append [] ys i x h = absurd cc
-slice_get-append (a ∷ xs) ys zero x h = h
-slice_get-append (a ∷ xs) ys (suc i) x h = slice_get-append xs ys i x h
 
 pub slice_get-append_at : {A : Type 0} (xs : List A) (x : A) (ys : List A) (i : ℕ) → i ≡ length xs → slice_get (xs ++ x ∷ ys) i ≡ Some x
 slice_get-append_at [] x ys zero h = refl
@@ -246,7 +249,8 @@ space_after space (want.Print v) = space
 space_after space want.Halted = space
 space_after space want.Trap = space
 
-space_after-access : (space : ℕ) (b : Bool) (k : Kind) (sp a o : ℕ) → space ≡ space_after space (if b then want.Access k sp a o else want.Trap)
+space_after-access : (space : ℕ) (b : Bool) (k : Kind) (sp a o : ℕ) →
+    space ≡ space_after space (if b then want.Access k sp a o else want.Trap)
 space_after-access space true k sp a o = refl
 space_after-access space false k sp a o = refl
 
@@ -254,7 +258,8 @@ space-gone_or_passed : (b : Bool) (s : GuestState) (at : ℕ) → (if b then gon
 space-gone_or_passed true s at = refl
 space-gone_or_passed false s at = refl
 
-space-executed : (m : Machine) (p : Program) (i : Instr) (s : GuestState) (v : ℕ) → (executed p i s v).space ≡ space_after s.space (wanted m s i)
+space-executed : (m : Machine) (p : Program) (i : Instr) (s : GuestState) (v : ℕ) →
+    (executed p i s v).space ≡ space_after s.space (wanted m s i)
 space-executed m p (instr.Set d n) s v = refl
 space-executed m p (instr.Move d a) s v = refl
 space-executed m p (instr.Add d a b) s v = refl
@@ -286,13 +291,11 @@ space-guest_after m q s v = space-executed_next m (program_of m q) s v (slice_ge
 pub values_of-append : (q : ℕ) (items more : List Item) → values_of q (items ++ more) ≡ values_of q items ++ values_of q more
 values_of-append q items more = filter_map-append (value_of q) items more
 
-pub operations_of-append : (q : ℕ) (items more : List Item) → operations_of q (items ++ more) ≡ operations_of q items ++ operations_of q more
-operations_of-append q items more = filter_map-append (done_of q) items more
-
 pub values_of-none : (q : ℕ) (items more : List Item) → values_of q more ≡ [] → values_of q (items ++ more) ≡ values_of q items
 values_of-none q items more h = rw (values_of-append, h, append-nil)
 
-pub operations_of-none : (q : ℕ) (items more : List Item) → operations_of q more ≡ [] → operations_of q (items ++ more) ≡ operations_of q items
+pub operations_of-none : (q : ℕ) (items more : List Item) → operations_of q more ≡ [] →
+    operations_of q (items ++ more) ≡ operations_of q items
 operations_of-none q items more h = rw (operations_of-append, h, append-nil)
 
 -- items that are none of the guest's
@@ -490,7 +493,8 @@ pub IsReach-wanted :
     → IsReach m s k sp a o (entry_reached m sp a)
 IsReach-wanted m q s k sp a o h =
     let w = wanted_next-access m s (slice_get (program_of m q).code s.at) k sp a o h in
-    let f : entry_at m sp (a / m.words) ≡ Some (entry_reached m sp a) = is_some-unwrap_or (entry_at m sp (a / m.words)) (length m.entries) w.1 in
+    let f : entry_at m sp (a / m.words) ≡ Some (entry_reached m sp a) =
+    is_some-unwrap_or (entry_at m sp (a / m.words)) (length m.entries) w.1 in
     let e = entry_at-found m sp (a / m.words) (entry_reached m sp a) f
     in record {
       space = w.0;
@@ -502,7 +506,8 @@ IsReach-wanted m q s k sp a o h =
     }
 
 pub reach_of-page :
-    (m : Machine) (s : GuestState) (k : Kind) (sp a o e : ℕ) → IsWithinLimits m → IsReach m s k sp a o e → (reach_of m k sp a o).page < m.pages
+    (m : Machine) (s : GuestState) (k : Kind) (sp a o e : ℕ) → IsWithinLimits m → IsReach m s k sp a o e →
+    (reach_of m k sp a o).page < m.pages
 reach_of-page m s k sp a o e h r = rw r.page (page_of-below m e h r.below)
 
 pub reach_of-word : (m : Machine) (k : Kind) (sp a o : ℕ) → IsWithinLimits m → (reach_of m k sp a o).word < m.words

@@ -1,8 +1,9 @@
 -- what each item of a history leaves alone, and what it changes: of an append, of applied messages, and of one more item
-use Rattle.std.specs.Prelude.{◌≡◌, ◌≢◌, ℕ, zero, suc, ◌+◌, ◌/◌, ◌==◌, nat_lt, nat_le, ◌&&◌, ◌||◌, not, if◌then◌else◌, Bool, true, false, List, [], ◌∷◌, ◌++◌, length, Option, Some, None}
-use Rattle.std.proofs.Common.{refl, ap, sym, ◌∙◌, arith}
-use Rattle.std.specs.List.{fold, list_any, list_all, filter_map}
-use Rattle.std.proofs.lemmas.Bool.{and_parts, or_parts, not-true, eq-eqb, ne_eqb, cond-true, cond-false}
+use Rattle.std.specs.Prelude.{◌≡◌, ◌≢◌, ℕ, zero, suc, ◌+◌, ◌/◌, ◌==◌, nat_lt, nat_le, ◌&&◌, ◌||◌, not, if◌then◌else◌, Bool, true, false}
+use Rattle.std.specs.Prelude.{List, [], ◌∷◌, ◌++◌, ◌⊎◌, length, filter, Option, Some, None}
+use Rattle.std.proofs.Common.{refl, ap, sym, ◌∙◌, inl, inr, arith}
+use Rattle.std.specs.List.{fold, list_any, list_all, filter_map, cons_option}
+use Rattle.std.proofs.lemmas.Bool.{and_parts, or_parts, not-true, eq-eqb, ne_eqb, cond-true, cond-false, cases_Bool}
 use Rattle.std.proofs.lemmas.Grind.{fold-append}
 use Rattle.std.proofs.lemmas.List.{append_assoc, append-nil}
 use Rattle.std.proofs.lemmas.List.Folds.{list_any-append}
@@ -12,7 +13,8 @@ use Rattle.plat_base.specs.Machine.{Machine}
 use Rattle.plat_base.specs.Pages.{entry_at, page_of, program_of, initial_value}
 use Rattle.plat_base.specs.Flat.{writes_word, written, flat_value, flat_writes}
 use Rattle.plat_base.specs.Directories.{change_of, empty_dir, dir_after, dir_of, seq_after, seq_of, last_after, last_of}
-use Rattle.plat_base.specs.Held.{kept_of, granted_to, held_after, held, active_after, active, has_right, is_later_change, later, held_through}
+use Rattle.plat_base.specs.Held.{kept_of, granted_to, held_after, held, active_after, active, has_right, is_later_change, later}
+use Rattle.plat_base.specs.Held.{held_through}
 use Rattle.plat_base.specs.Done.{value_of, values_of, Done, done_of, operations_of, are_done}
 use Rattle.plat_base.specs.GuestRun.{guest_run, want_of, GoesOn, HasHalted, HasTrapped}
 use Rattle.plat_base.specs.Ends.{ended_of}
@@ -32,6 +34,7 @@ use Rattle.plat_base.specs.declared.guests.Want.{Want}
 use Rattle.plat_base.specs.declared.statuses.Rule.{Rule}
 use Rattle.plat_base.specs.declared.statuses.Bad.{Bad}
 use Rattle.plat_base.specs.declared.guests.Want.TheVariants as want
+use Rattle.plat_base.proofs.ListLemmas.{list_any-push}
 
 -- ---- lists
 
@@ -39,32 +42,48 @@ pub or-false : (b : Bool) → (b || false) ≡ b
 or-false true = refl
 or-false false = refl
 
-pub list_any-push : {A : Type 0} (f : A → Bool) (xs : List A) (x : A) → list_any f (xs ++ x ∷ []) ≡ (list_any f xs || f x)
-list_any-push f xs x = list_any-append f xs (x ∷ []) ∙ ap (λ b. list_any f xs || b) (or-false (f x))
-
 -- a fold over items that each leave it as it is
-pub fold-still : {A B : Type 0} (f : B → A → B) (p : A → Bool) → ((b : B) (x : A) → p x ≡ true → f b x ≡ b) → (z : B) (xs : List A) → list_all p xs ≡ true → fold f z xs ≡ z
+pub fold-still : {A B : Type 0} (f : B → A → B) (p : A → Bool) → ((b : B) (x : A) → p x ≡ true → f b x ≡ b) → (z : B) (xs : List A) →
+    list_all p xs ≡ true → fold f z xs ≡ z
 fold-still f p h z [] k = refl
 fold-still f p h z (x ∷ xs) k =
     let t = and_parts (p x) (list_all p xs) k in fold-still f p h (f z x) xs t.1 ∙ h z x t.0
 
-pub fold-append_still : {A B : Type 0} (f : B → A → B) (p : A → Bool) → ((b : B) (x : A) → p x ≡ true → f b x ≡ b) → (z : B) (xs ys : List A) → list_all p ys ≡ true → fold f z (xs ++ ys) ≡ fold f z xs
+pub fold-append_still : {A B : Type 0} (f : B → A → B) (p : A → Bool) → ((b : B) (x : A) → p x ≡ true → f b x ≡ b) →
+    (z : B) (xs ys : List A) → list_all p ys ≡ true → fold f z (xs ++ ys) ≡ fold f z xs
 fold-append_still f p h z xs ys k = fold-append f z xs ys ∙ fold-still f p h (fold f z xs) ys k
 
-pub list_any-still : {A : Type 0} (f p : A → Bool) → ((x : A) → p x ≡ true → f x ≡ false) → (xs : List A) → list_all p xs ≡ true → list_any f xs ≡ false
+-- items that leave it as they are may be left out
+pub fold-filter :
+    {A B : Type 0} (f : B → A → B) (p : A → Bool) → ((b : B) (x : A) → p x ≡ false → f b x ≡ b) → (b : B) (xs : List A)
+    → fold f b (filter p xs) ≡ fold f b xs
+fold-filter f p idle b [] = refl
+fold-filter f p idle b (x ∷ xs) = by (cases_Bool (p x)) (fold-filter f p idle (f b x) xs) (fold-filter f p idle b xs)
+  where
+    by :
+        (p x ≡ true) ⊎ (p x ≡ false) → fold f (f b x) (filter p xs) ≡ fold f (f b x) xs → fold f b (filter p xs) ≡ fold f b xs
+        → fold f b (filter p (x ∷ xs)) ≡ fold f b (x ∷ xs)
+    by (inl here) more rest = rw here more
+    by (inr none) more rest = rw (none, idle b x none) rest
+
+pub list_any-still : {A : Type 0} (f p : A → Bool) → ((x : A) → p x ≡ true → f x ≡ false) → (xs : List A) → list_all p xs ≡ true →
+    list_any f xs ≡ false
 list_any-still f p h [] k = refl
 list_any-still f p h (x ∷ xs) k =
     let t = and_parts (p x) (list_all p xs) k in rw (h x t.0) (list_any-still f p h xs t.1)
 
-pub filter_map-still : {A B : Type 0} (f : A → Option B) (p : A → Bool) → ((x : A) → p x ≡ true → f x ≡ None) → (xs : List A) → list_all p xs ≡ true → filter_map f xs ≡ []
+pub filter_map-still : {A B : Type 0} (f : A → Option B) (p : A → Bool) → ((x : A) → p x ≡ true → f x ≡ None) → (xs : List A) →
+    list_all p xs ≡ true → filter_map f xs ≡ []
 filter_map-still f p h [] k = refl
 filter_map-still f p h (x ∷ xs) k =
     let t = and_parts (p x) (list_all p xs) k in rw (h x t.0) (filter_map-still f p h xs t.1)
 
-pub list_any-append_still : {A : Type 0} (f p : A → Bool) → ((x : A) → p x ≡ true → f x ≡ false) → (xs ys : List A) → list_all p ys ≡ true → list_any f (xs ++ ys) ≡ list_any f xs
+pub list_any-append_still : {A : Type 0} (f p : A → Bool) → ((x : A) → p x ≡ true → f x ≡ false) → (xs ys : List A) → list_all p ys ≡ true →
+    list_any f (xs ++ ys) ≡ list_any f xs
 list_any-append_still f p h xs ys k = rw (list_any-append f xs ys, list_any-still f p h ys k) (or-false (list_any f xs))
 
-pub filter_map-append_still : {A B : Type 0} (f : A → Option B) (p : A → Bool) → ((x : A) → p x ≡ true → f x ≡ None) → (xs ys : List A) → list_all p ys ≡ true → filter_map f (xs ++ ys) ≡ filter_map f xs
+pub filter_map-append_still : {A B : Type 0} (f : A → Option B) (p : A → Bool) → ((x : A) → p x ≡ true → f x ≡ None) → (xs ys : List A) →
+    list_all p ys ≡ true → filter_map f (xs ++ ys) ≡ filter_map f xs
 filter_map-append_still f p h xs ys k = rw (filter_map-append f xs ys, filter_map-still f p h ys k) (append-nil (filter_map f xs))
 
 -- the same where no item passes a test
@@ -73,11 +92,13 @@ all_not : {A : Type 0} (p : A → Bool) (xs : List A) → list_any p xs ≡ fals
 all_not p [] k = refl
 all_not p (x ∷ xs) k = let t = or_parts (p x) (list_any p xs) k in rw (t.0, all_not p xs t.1) refl
 
-pub fold-append_untouched : {A B : Type 0} (f : B → A → B) (p : A → Bool) → ((b : B) (x : A) → p x ≡ false → f b x ≡ b) → (z : B) (xs ys : List A) → list_any p ys ≡ false → fold f z (xs ++ ys) ≡ fold f z xs
+pub fold-append_untouched : {A B : Type 0} (f : B → A → B) (p : A → Bool) → ((b : B) (x : A) → p x ≡ false → f b x ≡ b) →
+    (z : B) (xs ys : List A) → list_any p ys ≡ false → fold f z (xs ++ ys) ≡ fold f z xs
 fold-append_untouched f p h z xs ys k =
     fold-append_still f (λ x. not (p x)) (λ b x n. h b x (not-true (p x) n)) z xs ys (all_not p ys k)
 
-pub filter_map-append_untouched : {A B : Type 0} (f : A → Option B) (p : A → Bool) → ((x : A) → p x ≡ false → f x ≡ None) → (xs ys : List A) → list_any p ys ≡ false → filter_map f (xs ++ ys) ≡ filter_map f xs
+pub filter_map-append_untouched : {A B : Type 0} (f : A → Option B) (p : A → Bool) → ((x : A) → p x ≡ false → f x ≡ None) →
+    (xs ys : List A) → list_any p ys ≡ false → filter_map f (xs ++ ys) ≡ filter_map f xs
 filter_map-append_untouched f p h xs ys k =
     filter_map-append_still f (λ x. not (p x)) (λ x n. h x (not-true (p x) n)) xs ys (all_not p ys k)
 
@@ -91,25 +112,32 @@ other_number n k x y h = cond-false (n == k) x y (ne_eqb n k h)
 
 -- ---- an append: each fold goes on, each test is an or
 
-pub dir_of-append : (xs ys : List Item) (page : ℕ) → dir_of (xs ++ ys) page ≡ fold (λ d i. dir_after d (change_of page i)) (dir_of xs page) ys
+pub dir_of-append : (xs ys : List Item) (page : ℕ) →
+    dir_of (xs ++ ys) page ≡ fold (λ d i. dir_after d (change_of page i)) (dir_of xs page) ys
 dir_of-append xs ys page = fold-append (λ d i. dir_after d (change_of page i)) empty_dir xs ys
 
-pub seq_of-append : (xs ys : List Item) (page : ℕ) → seq_of (xs ++ ys) page ≡ fold (λ n i. seq_after n (change_of page i)) (seq_of xs page) ys
+pub seq_of-append : (xs ys : List Item) (page : ℕ) →
+    seq_of (xs ++ ys) page ≡ fold (λ n i. seq_after n (change_of page i)) (seq_of xs page) ys
 seq_of-append xs ys page = fold-append (λ n i. seq_after n (change_of page i)) 0 xs ys
 
-pub last_of-append : (xs ys : List Item) (page : ℕ) → last_of (xs ++ ys) page ≡ fold (λ last i. last_after last (change_of page i)) (last_of xs page) ys
+pub last_of-append : (xs ys : List Item) (page : ℕ) →
+    last_of (xs ++ ys) page ≡ fold (λ last i. last_after last (change_of page i)) (last_of xs page) ys
 last_of-append xs ys page = fold-append (λ last i. last_after last (change_of page i)) None xs ys
 
-pub held-append : (m : Machine) (xs ys : List Item) (q entry : ℕ) → held m (xs ++ ys) q entry ≡ fold (held_after m q entry) (held m xs q entry) ys
+pub held-append : (m : Machine) (xs ys : List Item) (q entry : ℕ) →
+    held m (xs ++ ys) q entry ≡ fold (held_after m q entry) (held m xs q entry) ys
 held-append m xs ys q entry = fold-append (held_after m q entry) None xs ys
 
 pub active-append : (m : Machine) (xs ys : List Item) (q : ℕ) → active m (xs ++ ys) q ≡ fold (active_after q) (active m xs q) ys
 active-append m xs ys q = fold-append (active_after q) (program_of m q).space xs ys
 
-pub flat_value-append : (m : Machine) (xs ys : List Item) (page word : ℕ) → flat_value m (xs ++ ys) page word ≡ fold (λ v i. if writes_word page word i then written i else v) (flat_value m xs page word) ys
-flat_value-append m xs ys page word = fold-append (λ v i. if writes_word page word i then written i else v) (initial_value m page word) xs ys
+pub flat_value-append : (m : Machine) (xs ys : List Item) (page word : ℕ) → flat_value m (xs ++ ys) page word
+    ≡ fold (λ v i. if writes_word page word i then written i else v) (flat_value m xs page word) ys
+flat_value-append m xs ys page word = fold-append (λ v i. if writes_word page word i then written i else v) (initial_value m page word) xs
+    ys
 
-pub flat_writes-append : (xs ys : List Item) (page word : ℕ) → flat_writes (xs ++ ys) page word ≡ fold (λ n i. if writes_word page word i then n + 1 else n) (flat_writes xs page word) ys
+pub flat_writes-append : (xs ys : List Item) (page word : ℕ) →
+    flat_writes (xs ++ ys) page word ≡ fold (λ n i. if writes_word page word i then n + 1 else n) (flat_writes xs page word) ys
 flat_writes-append xs ys page word = fold-append (λ n i. if writes_word page word i then n + 1 else n) 0 xs ys
 
 pub values_of-append : (q : ℕ) (xs ys : List Item) → values_of q (xs ++ ys) ≡ values_of q xs ++ values_of q ys
@@ -181,26 +209,31 @@ seq_of-applied xs ys page h =
 
 pub last_of-applied : (xs ys : List Item) (page : ℕ) → all_applied ys ≡ true → last_of (xs ++ ys) page ≡ last_of xs page
 last_of-applied xs ys page h =
-    fold-append_still (λ last i. last_after last (change_of page i)) is_applied (λ last i k. ap (last_after last) (no_change page i k)) None xs ys h
+    fold-append_still (λ last i. last_after last (change_of page i)) is_applied (λ last i k. ap (last_after last) (no_change page i k)) None
+    xs ys h
 
 pub active-applied : (m : Machine) (xs ys : List Item) (q : ℕ) → all_applied ys ≡ true → active m (xs ++ ys) q ≡ active m xs q
 active-applied m xs ys q h = fold-append_still (active_after q) is_applied (no_switch q) (program_of m q).space xs ys h
 
-pub flat_value-applied : (m : Machine) (xs ys : List Item) (page word : ℕ) → all_applied ys ≡ true → flat_value m (xs ++ ys) page word ≡ flat_value m xs page word
+pub flat_value-applied : (m : Machine) (xs ys : List Item) (page word : ℕ) → all_applied ys ≡ true → flat_value m (xs ++ ys) page word
+    ≡ flat_value m xs page word
 flat_value-applied m xs ys page word h =
     fold-append_still (λ v i. if writes_word page word i then written i else v) is_applied
     (λ v i k. ap (λ (b : Bool). if b then written i else v) (no_write page word i k)) (initial_value m page word) xs ys h
 
-pub flat_writes-applied : (xs ys : List Item) (page word : ℕ) → all_applied ys ≡ true → flat_writes (xs ++ ys) page word ≡ flat_writes xs page word
+pub flat_writes-applied : (xs ys : List Item) (page word : ℕ) → all_applied ys ≡ true →
+    flat_writes (xs ++ ys) page word ≡ flat_writes xs page word
 flat_writes-applied xs ys page word h =
     fold-append_still (λ n i. if writes_word page word i then n + 1 else n) is_applied
     (λ n i k. ap (λ (b : Bool). if b then n + 1 else n) (no_write page word i k)) 0 xs ys h
 
-pub later-applied : (test : Removed → Bool) (xs ys : List Item) (page seq : ℕ) → all_applied ys ≡ true → later test (xs ++ ys) page seq ≡ later test xs page seq
+pub later-applied : (test : Removed → Bool) (xs ys : List Item) (page seq : ℕ) → all_applied ys ≡ true →
+    later test (xs ++ ys) page seq ≡ later test xs page seq
 later-applied test xs ys page seq h =
     list_any-append_still (is_later_change test page seq) is_applied (no_later test page seq) xs ys h
 
-pub by_other-applied : (test : Removed → Bool) (xs ys : List Item) (q page seq : ℕ) → all_applied ys ≡ true → by_other test (xs ++ ys) q page seq ≡ by_other test xs q page seq
+pub by_other-applied : (test : Removed → Bool) (xs ys : List Item) (q page seq : ℕ) → all_applied ys ≡ true →
+    by_other test (xs ++ ys) q page seq ≡ by_other test xs q page seq
 by_other-applied test xs ys q page seq h =
     list_any-append_still (is_owed_for test q page seq) is_applied (no_other test q page seq) xs ys h
 
@@ -212,50 +245,63 @@ operations_of-applied q xs ys h = filter_map-append_still (done_of q) is_applied
 
 -- ---- one more change
 
-pub dir_of-change : (xs : List Item) (c : Change) (page : ℕ) → dir_of (xs ++ item.Change c ∷ []) page ≡ if c.page == page then c.after else dir_of xs page
+pub dir_of-change : (xs : List Item) (c : Change) (page : ℕ) → dir_of (xs ++ item.Change c ∷ []) page ≡ if c.page == page then c.after
+    else dir_of xs page
 dir_of-change xs c page = dir_of-append xs (item.Change c ∷ []) page ∙ taken (c.page == page)
   where
     taken : (b : Bool) → dir_after (dir_of xs page) (if b then Some c else None) ≡ if b then c.after else dir_of xs page
     taken true = refl
     taken false = refl
 
-pub seq_of-change : (xs : List Item) (c : Change) (page : ℕ) → seq_of (xs ++ item.Change c ∷ []) page ≡ if c.page == page then seq_of xs page + 1 else seq_of xs page
+pub seq_of-change : (xs : List Item) (c : Change) (page : ℕ) → seq_of (xs ++ item.Change c ∷ []) page
+    ≡ if c.page == page then seq_of xs page + 1 else seq_of xs page
 seq_of-change xs c page = seq_of-append xs (item.Change c ∷ []) page ∙ taken (c.page == page)
   where
     taken : (b : Bool) → seq_after (seq_of xs page) (if b then Some c else None) ≡ if b then seq_of xs page + 1 else seq_of xs page
     taken true = refl
     taken false = refl
 
-pub held-change : (m : Machine) (xs : List Item) (c : Change) (q entry : ℕ) → held m (xs ++ item.Change c ∷ []) q entry ≡ held_after m q entry (held m xs q entry) (item.Change c)
+pub held-change : (m : Machine) (xs : List Item) (c : Change) (q entry : ℕ) → held m (xs ++ item.Change c ∷ []) q entry
+    ≡ held_after m q entry (held m xs q entry) (item.Change c)
 held-change m xs c q entry = held-append m xs (item.Change c ∷ []) q entry
 
-pub later-change : (test : Removed → Bool) (xs : List Item) (c : Change) (page seq : ℕ) → later test (xs ++ item.Change c ∷ []) page seq ≡ (later test xs page seq || (c.page == page && nat_lt seq c.seq && test c.removed))
+pub later-change : (test : Removed → Bool) (xs : List Item) (c : Change) (page seq : ℕ) → later test (xs ++ item.Change c ∷ []) page seq
+    ≡ (later test xs page seq || (c.page == page && nat_lt seq c.seq && test c.removed))
 later-change test xs c page seq = list_any-push (is_later_change test page seq) xs (item.Change c)
 
-pub by_other-change : (test : Removed → Bool) (xs : List Item) (c : Change) (q page seq : ℕ) → by_other test (xs ++ item.Change c ∷ []) q page seq ≡ (by_other test xs q page seq || (c.page == page && nat_lt seq c.seq && test c.removed && not (c.actor == q)))
+pub by_other-change : (test : Removed → Bool) (xs : List Item) (c : Change) (q page seq : ℕ) →
+    by_other test (xs ++ item.Change c ∷ []) q page seq
+    ≡ (by_other test xs q page seq || (c.page == page && nat_lt seq c.seq && test c.removed && not (c.actor == q)))
 by_other-change test xs c q page seq = list_any-push (is_owed_for test q page seq) xs (item.Change c)
 
 -- of the actor and of another processor
 
-pub held-change_own : (m : Machine) (xs : List Item) (c : Change) (entry : ℕ) → held m (xs ++ item.Change c ∷ []) c.actor entry ≡ granted_to entry c.seq c.granted (if page_of m entry == c.page then kept_of c.removed (held m xs c.actor entry) else held m xs c.actor entry)
+pub held-change_own : (m : Machine) (xs : List Item) (c : Change) (entry : ℕ) → held m (xs ++ item.Change c ∷ []) c.actor entry
+    ≡ granted_to entry c.seq c.granted (if page_of m entry == c.page then kept_of c.removed (held m xs c.actor entry)
+    else held m xs c.actor entry)
 held-change_own m xs c entry =
     held-change m xs c c.actor entry
-    ∙ same_number c.actor (granted_to entry c.seq c.granted (if page_of m entry == c.page then kept_of c.removed (held m xs c.actor entry) else held m xs c.actor entry)) (held m xs c.actor entry)
+    ∙ same_number c.actor (granted_to entry c.seq c.granted (if page_of m entry == c.page then kept_of c.removed (held m xs c.actor entry)
+    else held m xs c.actor entry)) (held m xs c.actor entry)
 
-pub held-change_other : (m : Machine) (xs : List Item) (c : Change) (q entry : ℕ) → c.actor ≢ q → held m (xs ++ item.Change c ∷ []) q entry ≡ held m xs q entry
+pub held-change_other : (m : Machine) (xs : List Item) (c : Change) (q entry : ℕ) → c.actor ≢ q → held m (xs ++ item.Change c ∷ []) q entry
+    ≡ held m xs q entry
 held-change_other m xs c q entry h =
     held-change m xs c q entry
-    ∙ other_number c.actor q (granted_to entry c.seq c.granted (if page_of m entry == c.page then kept_of c.removed (held m xs q entry) else held m xs q entry)) (held m xs q entry) h
+    ∙ other_number c.actor q (granted_to entry c.seq c.granted (if page_of m entry == c.page then kept_of c.removed (held m xs q entry)
+    else held m xs q entry)) (held m xs q entry) h
 
 -- a change leaves the rest
 
 pub active-change : (m : Machine) (xs : List Item) (c : Change) (q : ℕ) → active m (xs ++ item.Change c ∷ []) q ≡ active m xs q
 active-change m xs c q = active-append m xs (item.Change c ∷ []) q
 
-pub flat_value-change : (m : Machine) (xs : List Item) (c : Change) (page word : ℕ) → flat_value m (xs ++ item.Change c ∷ []) page word ≡ flat_value m xs page word
+pub flat_value-change : (m : Machine) (xs : List Item) (c : Change) (page word : ℕ) → flat_value m (xs ++ item.Change c ∷ []) page word
+    ≡ flat_value m xs page word
 flat_value-change m xs c page word = flat_value-append m xs (item.Change c ∷ []) page word
 
-pub flat_writes-change : (xs : List Item) (c : Change) (page word : ℕ) → flat_writes (xs ++ item.Change c ∷ []) page word ≡ flat_writes xs page word
+pub flat_writes-change : (xs : List Item) (c : Change) (page word : ℕ) → flat_writes (xs ++ item.Change c ∷ []) page word
+    ≡ flat_writes xs page word
 flat_writes-change xs c page word = flat_writes-append xs (item.Change c ∷ []) page word
 
 pub values_of-change : (q : ℕ) (xs : List Item) (c : Change) → values_of q (xs ++ item.Change c ∷ []) ≡ values_of q xs
@@ -281,11 +327,14 @@ held-access m xs a q entry = held-append m xs (item.Access a ∷ []) q entry
 pub active-access : (m : Machine) (xs : List Item) (a : Access) (q : ℕ) → active m (xs ++ item.Access a ∷ []) q ≡ active m xs q
 active-access m xs a q = active-append m xs (item.Access a ∷ []) q
 
-pub later-access : (test : Removed → Bool) (xs : List Item) (a : Access) (page seq : ℕ) → later test (xs ++ item.Access a ∷ []) page seq ≡ later test xs page seq
+pub later-access : (test : Removed → Bool) (xs : List Item) (a : Access) (page seq : ℕ) → later test (xs ++ item.Access a ∷ []) page seq
+    ≡ later test xs page seq
 later-access test xs a page seq = list_any-push (is_later_change test page seq) xs (item.Access a) ∙ or-false (later test xs page seq)
 
-pub by_other-access : (test : Removed → Bool) (xs : List Item) (a : Access) (q page seq : ℕ) → by_other test (xs ++ item.Access a ∷ []) q page seq ≡ by_other test xs q page seq
-by_other-access test xs a q page seq = list_any-push (is_owed_for test q page seq) xs (item.Access a) ∙ or-false (by_other test xs q page seq)
+pub by_other-access : (test : Removed → Bool) (xs : List Item) (a : Access) (q page seq : ℕ) →
+    by_other test (xs ++ item.Access a ∷ []) q page seq ≡ by_other test xs q page seq
+by_other-access test xs a q page seq = list_any-push (is_owed_for test q page seq) xs (item.Access a)
+    ∙ or-false (by_other test xs q page seq)
 
 -- ---- one more switch
 
@@ -301,19 +350,25 @@ last_of-switch xs s page = last_of-append xs (item.Switch s ∷ []) page
 pub held-switch : (m : Machine) (xs : List Item) (s : Switch) (q entry : ℕ) → held m (xs ++ item.Switch s ∷ []) q entry ≡ held m xs q entry
 held-switch m xs s q entry = held-append m xs (item.Switch s ∷ []) q entry
 
-pub later-switch : (test : Removed → Bool) (xs : List Item) (s : Switch) (page seq : ℕ) → later test (xs ++ item.Switch s ∷ []) page seq ≡ later test xs page seq
+pub later-switch : (test : Removed → Bool) (xs : List Item) (s : Switch) (page seq : ℕ) → later test (xs ++ item.Switch s ∷ []) page seq
+    ≡ later test xs page seq
 later-switch test xs s page seq = list_any-push (is_later_change test page seq) xs (item.Switch s) ∙ or-false (later test xs page seq)
 
-pub by_other-switch : (test : Removed → Bool) (xs : List Item) (s : Switch) (q page seq : ℕ) → by_other test (xs ++ item.Switch s ∷ []) q page seq ≡ by_other test xs q page seq
-by_other-switch test xs s q page seq = list_any-push (is_owed_for test q page seq) xs (item.Switch s) ∙ or-false (by_other test xs q page seq)
+pub by_other-switch : (test : Removed → Bool) (xs : List Item) (s : Switch) (q page seq : ℕ) →
+    by_other test (xs ++ item.Switch s ∷ []) q page seq ≡ by_other test xs q page seq
+by_other-switch test xs s q page seq = list_any-push (is_owed_for test q page seq) xs (item.Switch s)
+    ∙ or-false (by_other test xs q page seq)
 
-pub flat_value-switch : (m : Machine) (xs : List Item) (s : Switch) (page word : ℕ) → flat_value m (xs ++ item.Switch s ∷ []) page word ≡ flat_value m xs page word
+pub flat_value-switch : (m : Machine) (xs : List Item) (s : Switch) (page word : ℕ) → flat_value m (xs ++ item.Switch s ∷ []) page word
+    ≡ flat_value m xs page word
 flat_value-switch m xs s page word = flat_value-append m xs (item.Switch s ∷ []) page word
 
-pub flat_writes-switch : (xs : List Item) (s : Switch) (page word : ℕ) → flat_writes (xs ++ item.Switch s ∷ []) page word ≡ flat_writes xs page word
+pub flat_writes-switch : (xs : List Item) (s : Switch) (page word : ℕ) → flat_writes (xs ++ item.Switch s ∷ []) page word
+    ≡ flat_writes xs page word
 flat_writes-switch xs s page word = flat_writes-append xs (item.Switch s ∷ []) page word
 
-pub active-switch : (m : Machine) (xs : List Item) (s : Switch) (q : ℕ) → active m (xs ++ item.Switch s ∷ []) q ≡ if s.actor == q then s.space else active m xs q
+pub active-switch : (m : Machine) (xs : List Item) (s : Switch) (q : ℕ) → active m (xs ++ item.Switch s ∷ []) q
+    ≡ if s.actor == q then s.space else active m xs q
 active-switch m xs s q = active-append m xs (item.Switch s ∷ []) q
 
 pub active-switch_own : (m : Machine) (xs : List Item) (s : Switch) → active m (xs ++ item.Switch s ∷ []) s.actor ≡ s.space
@@ -327,7 +382,8 @@ is_by q (item.Change c) = c.actor == q
 is_by q (item.Applied x) = x.actor == q
 is_by q (item.Switch s) = s.actor == q
 
-pub held-not_mine : (m : Machine) (xs ys : List Item) (q entry : ℕ) → list_any (is_by q) ys ≡ false → held m (xs ++ ys) q entry ≡ held m xs q entry
+pub held-not_mine : (m : Machine) (xs ys : List Item) (q entry : ℕ) → list_any (is_by q) ys ≡ false →
+    held m (xs ++ ys) q entry ≡ held m xs q entry
 held-not_mine m xs ys q entry h = fold-append_untouched (held_after m q entry) (is_by q) kept None xs ys h
   where
     kept : (t : Option Translation) (i : Item) → is_by q i ≡ false → held_after m q entry t i ≡ t
@@ -360,7 +416,8 @@ held_through-not_mine :
 held_through-not_mine m xs ys q None h = refl
 held_through-not_mine m xs ys q (Some entry) h = held-not_mine m xs ys q entry h
 
-wants_right-not_mine : (m : Machine) (xs ys : List Item) (q : ℕ) (w : Want) → list_any (is_by q) ys ≡ false → wants_right m (xs ++ ys) q w ≡ wants_right m xs q w
+wants_right-not_mine : (m : Machine) (xs ys : List Item) (q : ℕ) (w : Want) → list_any (is_by q) ys ≡ false →
+    wants_right m (xs ++ ys) q w ≡ wants_right m xs q w
 wants_right-not_mine m xs ys q want.Local h = refl
 wants_right-not_mine m xs ys q (want.Access k space addr operand) h =
     ap (λ t. not (has_right k t)) (held_through-not_mine m xs ys q (entry_at m space (addr / m.words)) h)
@@ -387,7 +444,8 @@ is_end_by m q vs ds wants end.Cut (suc t) =
     in stands r t GoesOn
     && (are_done (guest_run m q vs (suc t)).operations ds || (wants_operation (want_of m q r.state) && are_done r.operations ds))
 
-is_end-by : (m : Machine) (xs : List Item) (q : ℕ) (e : End) (turns : ℕ) → is_end m xs q e turns ≡ is_end_by m q (values_of q xs) (operations_of q xs) (wants_right m xs q) e turns
+is_end-by : (m : Machine) (xs : List Item) (q : ℕ) (e : End) (turns : ℕ) →
+    is_end m xs q e turns ≡ is_end_by m q (values_of q xs) (operations_of q xs) (wants_right m xs q) e turns
 unfolding is_end_by
 is_end-by m xs q end.Halted turns = refl
 is_end-by m xs q end.Trapped turns = refl
@@ -397,7 +455,8 @@ is_end-by m xs q end.NoFrames (suc t) = refl
 is_end-by m xs q end.Cut zero = refl
 is_end-by m xs q end.Cut (suc t) = refl
 
-is_end_by-like : (m : Machine) (q : ℕ) (vs : List ℕ) (ds : List Done) (wants also : Want → Bool) (e : End) (turns : ℕ) → ((w : Want) → wants w ≡ also w) → is_end_by m q vs ds wants e turns ≡ is_end_by m q vs ds also e turns
+is_end_by-like : (m : Machine) (q : ℕ) (vs : List ℕ) (ds : List Done) (wants also : Want → Bool) (e : End) (turns : ℕ) →
+    ((w : Want) → wants w ≡ also w) → is_end_by m q vs ds wants e turns ≡ is_end_by m q vs ds also e turns
 unfolding is_end_by
 is_end_by-like m q vs ds wants also end.Halted turns h = refl
 is_end_by-like m q vs ds wants also end.Trapped turns h = refl
@@ -409,14 +468,17 @@ is_end_by-like m q vs ds wants also end.NoFrames (suc t) h =
 is_end_by-like m q vs ds wants also end.Cut zero h = refl
 is_end_by-like m q vs ds wants also end.Cut (suc t) h = refl
 
-pub is_end-not_mine : (m : Machine) (xs ys : List Item) (q : ℕ) (e : End) (turns : ℕ) → list_any (is_by q) ys ≡ false → is_end m (xs ++ ys) q e turns ≡ is_end m xs q e turns
+pub is_end-not_mine : (m : Machine) (xs ys : List Item) (q : ℕ) (e : End) (turns : ℕ) → list_any (is_by q) ys ≡ false →
+    is_end m (xs ++ ys) q e turns ≡ is_end m xs q e turns
 is_end-not_mine m xs ys q e turns h =
     is_end-by m (xs ++ ys) q e turns
     ∙ rw (values_of-not_mine q xs ys h, operations_of-not_mine q xs ys h)
-    (is_end_by-like m q (values_of q xs) (operations_of q xs) (wants_right m (xs ++ ys) q) (wants_right m xs q) e turns (λ w. wants_right-not_mine m xs ys q w h))
+    (is_end_by-like m q (values_of q xs) (operations_of q xs) (wants_right m (xs ++ ys) q) (wants_right m xs q) e turns
+    (λ w. wants_right-not_mine m xs ys q w h))
     ∙ sym (is_end-by m xs q e turns)
 
-pub is_in_order-not_mine : (m : Machine) (xs ys : List Item) (before after : List Ended) (q : ℕ) → list_any (is_by q) ys ≡ false → ended_of after q ≡ ended_of before q → is_in_order m (xs ++ ys) after q ≡ is_in_order m xs before q
+pub is_in_order-not_mine : (m : Machine) (xs ys : List Item) (before after : List Ended) (q : ℕ) → list_any (is_by q) ys ≡ false →
+    ended_of after q ≡ ended_of before q → is_in_order m (xs ++ ys) after q ≡ is_in_order m xs before q
 is_in_order-not_mine m xs ys before after q h e =
     ap (λ (x : Ended). nat_le x.turns m.budget && is_end m (xs ++ ys) q x.end x.turns) e
     ∙ ap (λ b. nat_le (ended_of before q).turns m.budget && b)
@@ -424,7 +486,8 @@ is_in_order-not_mine m xs ys before after q h e =
 
 -- ---- the rules of an append
 
-pub bad_after-append : (m : Machine) (answer : Answer) (before : List Item) (n : ℕ) (xs ys : List Item) → bad_after m answer before n (xs ++ ys) ≡ bad_or (bad_after m answer before n xs) (bad_after m answer (before ++ xs) (n + length xs) ys)
+pub bad_after-append : (m : Machine) (answer : Answer) (before : List Item) (n : ℕ) (xs ys : List Item) →
+    bad_after m answer before n (xs ++ ys) ≡ bad_or (bad_after m answer before n xs) (bad_after m answer (before ++ xs) (n + length xs) ys)
 bad_after-append m answer before n [] ys =
     let k : n ≡ n + 0 = omega arith
     in rw append-nil (ap (λ i. bad_after m answer before i ys) k)
@@ -433,7 +496,8 @@ bad_after-append m answer before n (x ∷ xs) ys =
     in ap (bad_at n (bad_rule m answer before x))
     (bad_after-append m answer (before ++ x ∷ []) (n + 1) xs ys
     ∙ rw (append_assoc before (x ∷ []) xs, k) refl)
-    ∙ first_or (bad_rule m answer before x) (bad_after m answer (before ++ x ∷ []) (n + 1) xs) (bad_after m answer (before ++ x ∷ xs) (n + length (x ∷ xs)) ys)
+    ∙ first_or (bad_rule m answer before x) (bad_after m answer (before ++ x ∷ []) (n + 1) xs)
+    (bad_after m answer (before ++ x ∷ xs) (n + length (x ∷ xs)) ys)
   where
     first_or : (r : Option Rule) (b other : Option Bad) → bad_at n r (bad_or b other) ≡ bad_or (bad_at n r b) other
     first_or None b other = refl

@@ -18,7 +18,8 @@ pub and-right : (b c : Bool) → (b && c) ≡ true → c ≡ true
 and-right true c h = h
 and-right false c h = absurd cc
 
-pub list_all-get_or : {A : Type 0} (p : A → Bool) (xs : List A) (i : ℕ) (d : A) → list_all p xs ≡ true → i < length xs → p (get_or xs i d) ≡ true
+pub list_all-get_or : {A : Type 0} (p : A → Bool) (xs : List A) (i : ℕ) (d : A) → list_all p xs ≡ true → i < length xs →
+    p (get_or xs i d) ≡ true
 list_all-get_or p [] i d h l = absurd (omega arith)
 list_all-get_or p (x ∷ xs) zero d h l = and-left (p x) (list_all p xs) h
 list_all-get_or p (x ∷ xs) (suc i) d h l = list_all-get_or p xs i d (and-right (p x) (list_all p xs) h) (omega arith)

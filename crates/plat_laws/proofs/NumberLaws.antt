@@ -1,5 +1,6 @@
 -- the numbers below a bound: what is found among them, and how many there are at least
-use Rattle.std.proofs.Common.{◌≡◌, ℕ, zero, suc, ◌+◌, ◌<◌, ◌≤◌, Bool, true, false, not, List, [], ◌∷◌, length, filter, Option, Some, None, arith}
+use Rattle.std.proofs.Common.{◌≡◌, ℕ, zero, suc, ◌+◌, ◌<◌, ◌≤◌, Bool, true, false, not, List, [], ◌∷◌, length, filter, Option, Some, None}
+use Rattle.std.proofs.Common.{arith}
 use Rattle.std.specs.Prelude.{◌==◌, find}
 use Rattle.std.specs.List.{list_any, range_with_len, filter_map}
 use Rattle.std.proofs.lemmas.Bool.Decides.{nat_tests}
@@ -15,11 +16,13 @@ find_range-some : (test : ℕ → Bool) (a k i : ℕ) → find test (range_with_
 find_range-some test a zero i h = absurd cc
 find_range-some test a (suc k) i h = grind (arith, nat_tests, find_range-some test (a + 1) k i)
 
-list_any_range-true : (test : ℕ → Bool) (a k : ℕ) → list_any test (range_with_len a k) ≡ true → (i : ℕ) × (a ≤ i) × (i < a + k) × (test i ≡ true)
+list_any_range-true : (test : ℕ → Bool) (a k : ℕ) → list_any test (range_with_len a k) ≡ true → (i : ℕ) × (a ≤ i) × (i < a + k)
+    × (test i ≡ true)
 list_any_range-true test a zero h = absurd cc
 list_any_range-true test a (suc k) h = grind (arith, nat_tests, list_any_range-true test (a + 1) k)
 
-filter_map_range-none : {X : Type 0} (f : ℕ → Option X) (a k i : ℕ) → filter_map f (range_with_len a k) ≡ [] → a ≤ i → i < a + k → f i ≡ None
+filter_map_range-none : {X : Type 0} (f : ℕ → Option X) (a k i : ℕ) → filter_map f (range_with_len a k) ≡ [] → a ≤ i → i < a + k →
+    f i ≡ None
 filter_map_range-none f a zero i h l u = absurd (omega arith)
 filter_map_range-none f a (suc k) i h l u = grind (arith, nat_tests, filter_map_range-none f (a + 1) k i)
 
@@ -68,7 +71,8 @@ pigeon (suc k) xs h =
 
 -- ---- functions that give each number below a bound somewhere
 
-given_range : (f : ℕ → Option ℕ) (a k j i : ℕ) → a ≤ j → j < a + k → f j ≡ Some i → list_any (λ x. x == i) (filter_map f (range_with_len a k)) ≡ true
+given_range : (f : ℕ → Option ℕ) (a k j i : ℕ) → a ≤ j → j < a + k → f j ≡ Some i →
+    list_any (λ x. x == i) (filter_map f (range_with_len a k)) ≡ true
 given_range f a zero j i l u h = absurd (omega arith)
 given_range f a (suc k) j i l u h = grind (arith, nat_tests, given_range f (a + 1) k j i)
 

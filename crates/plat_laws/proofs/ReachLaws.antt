@@ -4,7 +4,8 @@ use Rattle.std.proofs.Common.{refl, sym, subst, ◌⊎◌, inl, inr}
 use Rattle.std.proofs.lemmas.List.{append-nil}
 use Rattle.plat_base.specs.Machine.{Machine}
 use Rattle.plat_base.specs.Pages.{entry_at, page_of, entry_reached}
-use Rattle.plat_base.specs.GuestRun.{GuestRun, Outcome, GoesOn, HasHalted, HasTrapped, Operation, Reaches, Switches, Reach, reach_of, value_for, want_of, with_access, guest_does, guest_more, guest_run}
+use Rattle.plat_base.specs.GuestRun.{GuestRun, Outcome, GoesOn, HasHalted, HasTrapped, Operation, Reaches, Switches, Reach, reach_of}
+use Rattle.plat_base.specs.GuestRun.{value_for, want_of, with_access, guest_does, guest_more, guest_run}
 use Rattle.plat_base.specs.declared.guests.Want.{Want}
 use Rattle.plat_base.specs.declared.guests.Want.TheVariants as want
 use Rattle.plat_laws.proofs.GuestLaws.{IsReach-wanted}

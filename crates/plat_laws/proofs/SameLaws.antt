@@ -1,104 +1,33 @@
 -- values that pass a test of equality are one
-use Rattle.std.specs.Prelude.{◌≡◌, ℕ, zero, suc, ◌==◌, ◌&&◌, Bool, true, false, List, [], ◌∷◌}
-use Rattle.std.proofs.Common.{refl, ap, sym, ◌∙◌}
+use Rattle.std.specs.Prelude.{◌≡◌, ℕ, ◌==◌, ◌&&◌, Bool, true, List, [], ◌∷◌}
+use Rattle.std.proofs.Common.{refl, ap, ◌∙◌, arith}
 use Rattle.std.proofs.lemmas.Bool.{and_parts, eqb-true}
 use Rattle.plat_base.specs.Copies.{same_frame, same_frames}
-use Rattle.plat_base.specs.Alike.{state_number, same_state, right_number, same_right, cause_number, same_cause, action_number, same_action, removed_number, same_removed, same_bool, same_dir}
+use Rattle.plat_base.specs.Alike.{same_state, same_right, same_cause, same_action, same_removed, same_bool, same_dir}
 use Rattle.plat_base.specs.declared.frames.Frame.{Frame}
 use Rattle.plat_base.specs.declared.frames.Dir.{Dir}
 use Rattle.plat_base.specs.declared.frames.State.{State}
-use Rattle.plat_base.specs.declared.frames.State.TheVariants as state
 use Rattle.plat_base.specs.declared.items.Right.{Right}
-use Rattle.plat_base.specs.declared.items.Right.TheVariants as right
 use Rattle.plat_base.specs.declared.items.Cause.{Cause}
-use Rattle.plat_base.specs.declared.items.Cause.TheVariants as cause
 use Rattle.plat_base.specs.declared.items.Action.{Action}
-use Rattle.plat_base.specs.declared.items.Action.TheVariants as action
 use Rattle.plat_base.specs.declared.items.Removed.{Removed}
-use Rattle.plat_base.specs.declared.items.Removed.TheVariants as removed
 
--- ---- values of one number, where a function gives each value back from its number
-
-by_number : {A : Type 0} (number : A → ℕ) (back : ℕ → A) → ((a : A) → back (number a) ≡ a) → (a b : A) → (number a == number b) ≡ true → a ≡ b
-by_number number back from a b h = sym (from a) ∙ (ap back (eqb-true (number a) (number b) h) ∙ from b)
-
-numbered_state : ℕ → State
-numbered_state zero = state.Empty
-numbered_state (suc zero) = state.Present1
-numbered_state (suc (suc zero)) = state.PresentPlus
-numbered_state (suc (suc (suc n))) = state.Modified
-
-numbered_state-back : (s : State) → numbered_state (state_number s) ≡ s
-unfolding numbered_state
-numbered_state-back state.Empty = refl
-numbered_state-back state.Present1 = refl
-numbered_state-back state.PresentPlus = refl
-numbered_state-back state.Modified = refl
+-- ---- values of one number
 
 pub same_state-true : (a b : State) → same_state a b ≡ true → a ≡ b
-same_state-true a b h = by_number state_number numbered_state numbered_state-back a b h
-
-numbered_right : ℕ → Right
-numbered_right zero = right.Read
-numbered_right (suc n) = right.Write
-
-numbered_right-back : (r : Right) → numbered_right (right_number r) ≡ r
-unfolding numbered_right
-numbered_right-back right.Read = refl
-numbered_right-back right.Write = refl
+same_state-true a b h = search arith
 
 pub same_right-true : (a b : Right) → same_right a b ≡ true → a ≡ b
-same_right-true a b h = by_number right_number numbered_right numbered_right-back a b h
-
-numbered_cause : ℕ → Cause
-numbered_cause zero = cause.Read
-numbered_cause (suc zero) = cause.Write
-numbered_cause (suc (suc n)) = cause.Thaw
-
-numbered_cause-back : (c : Cause) → numbered_cause (cause_number c) ≡ c
-unfolding numbered_cause
-numbered_cause-back cause.Read = refl
-numbered_cause-back cause.Write = refl
-numbered_cause-back cause.Thaw = refl
+same_right-true a b h = search arith
 
 pub same_cause-true : (a b : Cause) → same_cause a b ≡ true → a ≡ b
-same_cause-true a b h = by_number cause_number numbered_cause numbered_cause-back a b h
-
-numbered_removed : ℕ → Removed
-numbered_removed zero = removed.Nothing
-numbered_removed (suc zero) = removed.Writes
-numbered_removed (suc (suc n)) = removed.All
-
-numbered_removed-back : (r : Removed) → numbered_removed (removed_number r) ≡ r
-unfolding numbered_removed
-numbered_removed-back removed.Nothing = refl
-numbered_removed-back removed.Writes = refl
-numbered_removed-back removed.All = refl
+same_cause-true a b h = search arith
 
 pub same_removed-true : (a b : Removed) → same_removed a b ≡ true → a ≡ b
-same_removed-true a b h = by_number removed_number numbered_removed numbered_removed-back a b h
-
-numbered_action : ℕ → Action
-numbered_action zero = action.Fill
-numbered_action (suc zero) = action.MapLocal
-numbered_action (suc (suc zero)) = action.MapRemote
-numbered_action (suc (suc (suc zero))) = action.Replicate
-numbered_action (suc (suc (suc (suc zero)))) = action.Migrate
-numbered_action (suc (suc (suc (suc (suc zero))))) = action.Collapse
-numbered_action (suc (suc (suc (suc (suc (suc n)))))) = action.Thaw
-
-numbered_action-back : (a : Action) → numbered_action (action_number a) ≡ a
-unfolding numbered_action
-numbered_action-back action.Fill = refl
-numbered_action-back action.MapLocal = refl
-numbered_action-back action.MapRemote = refl
-numbered_action-back action.Replicate = refl
-numbered_action-back action.Migrate = refl
-numbered_action-back action.Collapse = refl
-numbered_action-back action.Thaw = refl
+same_removed-true a b h = search arith
 
 pub same_action-true : (a b : Action) → same_action a b ≡ true → a ≡ b
-same_action-true a b h = by_number action_number numbered_action numbered_action-back a b h
+same_action-true a b h = search arith
 
 -- ---- frames and directories
 
@@ -118,9 +47,7 @@ same_frames-true (f ∷ fs) (g ∷ gs) h =
     in ap (λ (x : Frame). x ∷ fs) (same_frame-true f g parts.0) ∙ ap (λ (xs : List Frame). g ∷ xs) (same_frames-true fs gs parts.1)
 
 same_bool-true : (a b : Bool) → same_bool a b ≡ true → a ≡ b
-same_bool-true true b h = sym h
-same_bool-true false true h = absurd cc
-same_bool-true false false h = refl
+same_bool-true a b h = search arith
 
 pub same_dir-true : (a b : Dir) → same_dir a b ≡ true → a ≡ b
 same_dir-true a b h =

@@ -1,5 +1,6 @@
 -- the table of protocol actions: what is known of each decision, so that nothing above looks into a row
-use Rattle.std.proofs.Common.{◌≡◌, ◌≢◌, ℕ, ◌+◌, ◌<◌, ◌≤◌, nat_lt, if◌then◌else◌, ◌&&◌, not, Bool, true, false, List, [], ◌∷◌, length, Option, Some, None, refl, sym, ap, ◌∙◌, ◌⊎◌, inl, inr, arith}
+use Rattle.std.proofs.Common.{◌≡◌, ◌≢◌, ℕ, ◌+◌, ◌<◌, ◌≤◌, nat_lt, if◌then◌else◌, ◌&&◌, not, Bool, true, false, List, [], ◌∷◌, length}
+use Rattle.std.proofs.Common.{Option, Some, None, refl, sym, ap, ◌∙◌, ◌⊎◌, inl, inr, arith}
 use Rattle.std.specs.Prelude.{◌==◌, is_some, is_none, unwrap_or}
 use Rattle.std.specs.List.{list_all, fold}
 use Rattle.std.proofs.lemmas.Bool.{eqb-true, eq-eqb, and_parts, and_from}
@@ -7,10 +8,13 @@ use Rattle.std.proofs.lemmas.Bool.Decides.{nat_tests}
 use Rattle.plat_base.specs.Verdicts.{Answer}
 use Rattle.plat_base.specs.Machine.{Machine}
 use Rattle.plat_base.specs.Pages.{distance}
-use Rattle.plat_base.specs.Alike.{same_verdict, state_number, same_state, right_number, same_right, cause_number, same_cause, action_number, same_action, removed_number, same_removed, same_bool, same_dir}
+use Rattle.plat_base.specs.Alike.{same_verdict, state_number, same_state, right_number, same_right, cause_number, same_cause, action_number}
+use Rattle.plat_base.specs.Alike.{same_action, removed_number, same_removed, same_bool, same_dir}
 use Rattle.plat_base.specs.Copies.{copy_on, with_frame, same_frames}
 use Rattle.plat_base.specs.Directories.{sets_last}
-use Rattle.plat_base.specs.Decide.{is_frame, is_dir, is_empty, modules_rise, has_copies, nearer, nearest, no_frame, decide, may_decide, fits_cause, frozen_after, asks, decision, after_with, row_does, row_of, moves_page, thawed_state, is_some_frame, is_frame_on}
+use Rattle.plat_base.specs.Decide.{is_frame, is_dir, is_empty, modules_rise, has_copies, nearer, nearest, no_frame, decide, may_decide}
+use Rattle.plat_base.specs.Decide.{fits_cause, frozen_after, asks, decision, after_with, row_does, row_of, moves_page, thawed_state}
+use Rattle.plat_base.specs.Decide.{is_some_frame, is_frame_on}
 use Rattle.plat_base.specs.Rules.{names_got, is_decided}
 use Rattle.plat_base.specs.Turns.{change_by}
 use Rattle.plat_base.proofs.CopiesLemmas.{copy_on-module, length-with_frame, same_frames-itself}
@@ -45,21 +49,25 @@ cause_of-fault kind.Add e = cc
 -- ---- the copy on a module
 
 -- what holds of each frame holds of the copy on a module
-pub list_all_copy_on : (test : Frame → Bool) (mo : ℕ) (f : Frame) (fs : List Frame) → copy_on mo fs ≡ Some f → list_all test fs ≡ true → test f ≡ true
+pub list_all_copy_on : (test : Frame → Bool) (mo : ℕ) (f : Frame) (fs : List Frame) → copy_on mo fs ≡ Some f → list_all test fs ≡ true →
+    test f ≡ true
 list_all_copy_on test mo f [] h k = absurd cc
 list_all_copy_on test mo f (g ∷ gs) h k = grind (arith, nat_tests, list_all_copy_on test mo f gs)
 
 -- ---- a copy more
 
-pub copy_on-with_frame : (mo : ℕ) (f : Frame) (fs : List Frame) → copy_on mo (with_frame f fs) ≡ if f.module == mo then Some f else copy_on mo fs
+pub copy_on-with_frame : (mo : ℕ) (f : Frame) (fs : List Frame) → copy_on mo (with_frame f fs) ≡ if f.module == mo then Some f
+    else copy_on mo fs
 copy_on-with_frame mo f [] = refl
 copy_on-with_frame mo f (g ∷ gs) = grind (arith, nat_tests, copy_on-with_frame mo f gs)
 
-pub list_all-with_frame : (test : Frame → Bool) (f : Frame) (fs : List Frame) → test f ≡ true → list_all test fs ≡ true → list_all test (with_frame f fs) ≡ true
+pub list_all-with_frame : (test : Frame → Bool) (f : Frame) (fs : List Frame) → test f ≡ true → list_all test fs ≡ true →
+    list_all test (with_frame f fs) ≡ true
 list_all-with_frame test f [] h k = grind arith
 list_all-with_frame test f (g ∷ gs) h k = grind (arith, nat_tests, list_all-with_frame test f gs)
 
-pub modules_rise-with_frame : (low : ℕ) (f : Frame) (fs : List Frame) → low ≤ f.module → modules_rise low fs ≡ true → modules_rise low (with_frame f fs) ≡ true
+pub modules_rise-with_frame : (low : ℕ) (f : Frame) (fs : List Frame) → low ≤ f.module → modules_rise low fs ≡ true →
+    modules_rise low (with_frame f fs) ≡ true
 modules_rise-with_frame low f [] h k = grind (arith, nat_tests)
 modules_rise-with_frame low f (g ∷ gs) h k = grind (arith, nat_tests, modules_rise-with_frame (g.module + 1) f gs)
 
@@ -73,11 +81,13 @@ either : (test : Bool) (f g : Frame) → ((if test then f else g) ≡ f) ⊎ ((i
 either true f g = inl refl
 either false f g = inr refl
 
-is_among-more : (best g b : Frame) (low : ℕ) (gs : List Frame) (n : Frame) → (b ≡ g) ⊎ (b ≡ best) → low ≤ g.module → Is_among b (g.module + 1) gs n → Is_among best low (g ∷ gs) n
+is_among-more : (best g b : Frame) (low : ℕ) (gs : List Frame) (n : Frame) → (b ≡ g) ⊎ (b ≡ best) → low ≤ g.module →
+    Is_among b (g.module + 1) gs n → Is_among best low (g ∷ gs) n
 unfolding Is_among
 is_among-more best g b low gs n c l h = grind (arith, nat_tests)
 
-nearest_among : (m : Machine) (node low : ℕ) (best : Frame) (fs : List Frame) → modules_rise low fs ≡ true → Is_among best low fs (fold (nearer m node) best fs)
+nearest_among : (m : Machine) (node low : ℕ) (best : Frame) (fs : List Frame) → modules_rise low fs ≡ true →
+    Is_among best low fs (fold (nearer m node) best fs)
 unfolding Is_among
 nearest_among m node low best [] h = inl refl
 nearest_among m node low best (g ∷ gs) h =
@@ -87,15 +97,18 @@ nearest_among m node low best (g ∷ gs) h =
     r.0
     (nearest_among m node (g.module + 1) (nearer m node best g) gs r.1)
 
-copy_on-among : (f : Frame) (low : ℕ) (fs : List Frame) (n : Frame) → f.module < low → Is_among f low fs n → copy_on n.module (f ∷ fs) ≡ Some n
+copy_on-among : (f : Frame) (low : ℕ) (fs : List Frame) (n : Frame) → f.module < low → Is_among f low fs n →
+    copy_on n.module (f ∷ fs) ≡ Some n
 unfolding Is_among
 copy_on-among f low fs n l h = grind (arith, nat_tests)
 
 -- the nearest copy is a copy
-pub copy_on-nearest : (m : Machine) (node : ℕ) (fs : List Frame) → 0 < length fs → modules_rise 0 fs ≡ true → copy_on (nearest m node fs).module fs ≡ Some (nearest m node fs)
+pub copy_on-nearest : (m : Machine) (node : ℕ) (fs : List Frame) → 0 < length fs → modules_rise 0 fs ≡ true →
+    copy_on (nearest m node fs).module fs ≡ Some (nearest m node fs)
 copy_on-nearest m node [] n h = absurd (omega arith)
 copy_on-nearest m node (f ∷ fs) n h =
-    copy_on-among f (f.module + 1) fs (nearest m node (f ∷ fs)) (omega arith) (nearest_among m node (f.module + 1) f fs (grind (arith, nat_tests)))
+    copy_on-among f (f.module + 1) fs (nearest m node (f ∷ fs)) (omega arith)
+    (nearest_among m node (f.module + 1) f fs (grind (arith, nat_tests)))
 
 -- ---- what is known of a fault's decision
 
@@ -207,9 +220,11 @@ near m b node h e = copy_on-nearest m node b.copies (has_some m b h e) (dir_part
 
 local_facts : (m : Machine) (b : Dir) (c : Cause) (s : State) (frozen : Bool) (node : ℕ) (g : Frame) → is_dir m b ≡ true → Stays b c s
     → copy_on node b.copies ≡ Some g
-    → DecideFacts m b None c (decision action.MapLocal removed.Nothing (after_with s frozen b.copies) false (unwrap_or (copy_on node b.copies) no_frame))
+    → DecideFacts m b None c (decision action.MapLocal removed.Nothing (after_with s frozen b.copies) false
+    (unwrap_or (copy_on node b.copies) no_frame))
 local_facts m b c s frozen node g h st k =
-    kept_facts m b c s frozen action.MapLocal (unwrap_or (copy_on node b.copies) no_frame) h st refl refl (λ x. absurd cc) (own node g b.copies k)
+    kept_facts m b c s frozen action.MapLocal (unwrap_or (copy_on node b.copies) no_frame) h st refl refl (λ x. absurd cc)
+    (own node g b.copies k)
 
 remote_facts : (m : Machine) (b : Dir) (c : Cause) (s : State) (frozen : Bool) (node : ℕ) → is_dir m b ≡ true → Stays b c s
     → is_empty b.state ≡ false
@@ -242,7 +257,8 @@ one_is_dir : (m : Machine) (s : State) (frozen : Bool) (f : Frame) → is_frame 
     → is_dir m (after_with s frozen (f ∷ [])) ≡ true
 one_is_dir m s frozen f h e n = dir_from m s frozen (f ∷ []) e (grind (arith, nat_tests)) (grind (arith, nat_tests)) n
 
-fill_facts : (m : Machine) (b : Dir) (c : Cause) (s : State) (frozen : Bool) (f : Frame) → b.state ≡ state.Empty → is_dir m b ≡ true → is_frame m f ≡ true
+fill_facts : (m : Machine) (b : Dir) (c : Cause) (s : State) (frozen : Bool) (f : Frame) → b.state ≡ state.Empty → is_dir m b ≡ true →
+    is_frame m f ≡ true
     → is_empty s ≡ false → has_copies s 1 ≡ true → (c ≡ cause.Write → s ≡ state.Modified)
     → DecideFacts m b (Some f) c (decision action.Fill removed.Nothing (after_with s frozen (f ∷ [])) false f)
 fill_facts m b c s frozen f was h k e n wr = record {
@@ -267,7 +283,8 @@ fill_facts m b c s frozen f was h k e n wr = record {
 }
 
 -- the copy was there, or was got
-one_from : (mo : ℕ) (f g : Frame) (got : Option Frame) (fs : List Frame) → (copy_on f.module fs ≡ Some f) ⊎ (got ≡ Some f) → copy_on mo (f ∷ []) ≡ Some g
+one_from : (mo : ℕ) (f g : Frame) (got : Option Frame) (fs : List Frame) → (copy_on f.module fs ≡ Some f) ⊎ (got ≡ Some f) →
+    copy_on mo (f ∷ []) ≡ Some g
     → (copy_on mo fs ≡ Some g) ⊎ (got ≡ Some g)
 one_from mo f g got fs c h = grind (arith, nat_tests)
 
@@ -304,11 +321,13 @@ collapse_facts : (m : Machine) (b : Dir) (frozen : Bool) (f : Frame) → is_dir 
     → copy_on f.module b.copies ≡ Some f
     → DecideFacts m b None cause.Write (decision action.Collapse removed.All (after_with state.Modified frozen (f ∷ [])) true f)
 collapse_facts m b frozen f h e k =
-    moved_facts m b None frozen action.Collapse f (list_all_copy_on (is_frame m) f.module f b.copies k (dir_parts m b h).0) refl refl (λ x. absurd cc) e (inl k)
+    moved_facts m b None frozen action.Collapse f (list_all_copy_on (is_frame m) f.module f b.copies k (dir_parts m b h).0) refl refl
+    (λ x. absurd cc) e (inl k)
 
 -- ---- rows that add a copy
 
-more_kept : (mo : ℕ) (f g : Frame) (fs : List Frame) → copy_on f.module fs ≡ None → copy_on mo fs ≡ Some g → copy_on mo (with_frame f fs) ≡ Some g
+more_kept : (mo : ℕ) (f g : Frame) (fs : List Frame) → copy_on f.module fs ≡ None → copy_on mo fs ≡ Some g →
+    copy_on mo (with_frame f fs) ≡ Some g
 more_kept mo f g fs none h = grind (arith, nat_tests, copy_on-with_frame mo f fs)
 
 more_from : (mo : ℕ) (f g : Frame) (fs : List Frame) → copy_on mo (with_frame f fs) ≡ Some g → (copy_on mo fs ≡ Some g) ⊎ (Some f ≡ Some g)
@@ -320,11 +339,14 @@ more_itself f fs = grind (arith, nat_tests, copy_on-with_frame f.module f fs)
 replicate_facts : (m : Machine) (b : Dir) (rem : Removed) (frozen : Bool) (f : Frame) → is_dir m b ≡ true → is_frame m f ≡ true
     → copy_on f.module b.copies ≡ None → is_empty b.state ≡ false → rem ≢ removed.All
     → (b.state ≡ state.Modified → rem ≡ removed.Writes) → (rem ≡ removed.Writes → b.state ≡ state.Modified)
-    → DecideFacts m b (Some f) cause.Read (decision action.Replicate rem (after_with state.PresentPlus frozen (with_frame f b.copies)) false f)
+    → DecideFacts m b (Some f) cause.Read
+    (decision action.Replicate rem (after_with state.PresentPlus frozen (with_frame f b.copies)) false f)
 replicate_facts m b rem frozen f h k none e na wr back =
     let parts = dir_parts m b h in
     record {
-      dir = dir_from m state.PresentPlus frozen (with_frame f b.copies) refl (list_all-with_frame (is_frame m) f b.copies k parts.0) (modules_rise-with_frame 0 f b.copies (omega arith) parts.1) (grind (arith, nat_tests, length-with_frame f b.copies none, has_some m b h e));
+      dir = dir_from m state.PresentPlus frozen (with_frame f b.copies) refl (list_all-with_frame (is_frame m) f b.copies k parts.0)
+          (modules_rise-with_frame 0 f b.copies (omega arith) parts.1)
+          (grind (arith, nat_tests, length-with_frame f b.copies none, has_some m b h e));
       filled = refl;
       got_back = refl;
       writes_before = back;
@@ -480,10 +502,12 @@ pub decide_facts : (m : Machine) (answer : Answer) (b : Dir) (last : Option ℕ)
 unfolding Fits
 decide_facts m answer b last now n cause.Read got t k =
     let h = and_parts (is_dir m b) (fits_cause m answer b last now n cause.Read got) k in
-    read_decides m b (frozen_after (asks cause.Read b n) (answer b last now) b.frozen) n b.state (copy_on n b.copies) (answer b last now) got h.0 refl refl h.1
+    read_decides m b (frozen_after (asks cause.Read b n) (answer b last now) b.frozen) n b.state (copy_on n b.copies) (answer b last now)
+    got h.0 refl refl h.1
 decide_facts m answer b last now n cause.Write got t k =
     let h = and_parts (is_dir m b) (fits_cause m answer b last now n cause.Write got) k in
-    write_decides m b (frozen_after (asks cause.Write b n) (answer b last now) b.frozen) n b.state (copy_on n b.copies) (answer b last now) got h.0 refl refl h.1
+    write_decides m b (frozen_after (asks cause.Write b n) (answer b last now) b.frozen) n b.state (copy_on n b.copies) (answer b last now)
+    got h.0 refl refl h.1
 decide_facts m answer b last now n cause.Thaw got t k = absurd (t refl)
 
 -- ---- a thaw

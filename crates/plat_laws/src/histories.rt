@@ -9,5 +9,6 @@ use plat_base::{Config, Ended, Item, Policy};
 /// history of flat memory (Lamport 1979), and each processor's are those of its program. Each goes by a translation that
 /// no earlier shootdown removed, to a copy of its page, a write to the only copy, and finds its value in that copy.
 pub fn good_history<P: Policy>(cfg: &Config, policy: &P, items: &[Item], ends: &[Ended])
-    ensures { Good (machine cfg.now) (P.answer policy.now) items.now ends.now → IsOneHistory (machine cfg.now) items.now ends.now }
+    ensures { Good (machine cfg.now) (P.answer policy.now) items.now ends.now →
+        IsOneHistory (machine cfg.now) items.now ends.now }
 {}

@@ -16,10 +16,14 @@ use Rattle.plat_base.specs.declared.guests.Want.{Want}
 use Rattle.plat_base.specs.declared.guests.Want.TheVariants as want
 use Rattle.plat_events.specs.Words.{has_bit, has_invalidate, has_restrict, is_locked}
 use Rattle.plat_events.specs.Shootdowns.{Shoot, Makes, Polls, Done, shot_after}
-use Rattle.plat_events.specs.Sessions.{Fault, Phase, Stamping, Seeking, Taking, Returning, Shooting, Filling, Reading, Copying, Giving, Storing, Granting, Unlocking, Session}
-use Rattle.plat_events.specs.Privates.{Onward, NewTurn, TurnOver, Relock, Rewait, Place, Polling, Looking, Applying, Ticking, Switching, Loading, Expecting, Exchanging, Locking, InSession, Leaving, Lessening, Gone, LiveLooking, TimeLooking, Over, Private, is_over, period, translation_at}
+use Rattle.plat_events.specs.Sessions.{Fault, Phase, Stamping, Seeking, Taking, Returning, Shooting, Filling, Reading, Copying, Giving}
+use Rattle.plat_events.specs.Sessions.{Storing, Granting, Unlocking, Session}
+use Rattle.plat_events.specs.Privates.{Onward, NewTurn, TurnOver, Relock, Rewait, Place, Polling, Looking, Applying, Ticking, Switching}
+use Rattle.plat_events.specs.Privates.{Loading, Expecting, Exchanging, Locking, InSession, Leaving, Lessening, Gone, LiveLooking}
+use Rattle.plat_events.specs.Privates.{TimeLooking, Over, Private, is_over, period, translation_at}
 use Rattle.plat_events.specs.Scans.{turn_over, go_on, scan_from, poll_place, look_place}
-use Rattle.plat_events.specs.Events.{at, reach_now, entry_of, look_up_place, lock_place_after, turn_does, thaw_of, page_done, shoot_place, access_over, session_moved, moved_at}
+use Rattle.plat_events.specs.Events.{at, reach_now, entry_of, look_up_place, lock_place_after, turn_does, thaw_of, page_done, shoot_place}
+use Rattle.plat_events.specs.Events.{access_over, session_moved, moved_at}
 use Rattle.plat_events.specs.Kept.{has_left}
 use Rattle.plat_events.specs.Shown.{act_of}
 use Rattle.plat_local_laws.specs.Standing.{PlaceOk}
@@ -165,7 +169,8 @@ live_looked n false = (refl, refl)
 -- an actor leaves by its swap to none, a processor ends by one processor less, and the daemon where it finds no live processor
 pub moved-left :
     (m : Machine) (answer : Answer) (a : ℕ) (p : Private) (n : ℕ) (place : Place) → p.place ≡ place
-    → (has_left (moved_at m answer a p n place).place ≡ left_moved place) × (is_over (moved_at m answer a p n place).place ≡ over_moved n place)
+    → (has_left (moved_at m answer a p n place).place ≡ left_moved place)
+    × (is_over (moved_at m answer a p n place).place ≡ over_moved n place)
 moved-left m answer a p n (Polling onward) e = active-both _ (poll_place-active m p onward n)
 moved-left m answer a p n (Looking i moment onward) e = active-both _ (look_place-active m a p i moment onward n)
 moved-left m answer a p n (Applying i msg moment onward) e =

@@ -16,7 +16,8 @@ abbrev pub followed : Machine → Answer → (a : ℕ) → Private → ℕ → P
 followed m answer a p n =
     record (moved_at m answer a p n p.place) { journal = with_item p.journal (item_at m answer a p n p.place) }
 
-after_if-true : (b : Bool) (p moved : Private) (made : Option Item) → b ≡ true → after_if b p moved made ≡ record moved { journal = with_item p.journal made }
+after_if-true : (b : Bool) (p moved : Private) (made : Option Item) → b ≡ true →
+    after_if b p moved made ≡ record moved { journal = with_item p.journal made }
 after_if-true true p moved made e = refl
 after_if-true false p moved made e = absurd cc
 
@@ -80,7 +81,8 @@ after-passed m answer a p n e =
 
 -- so each event of an actor leads to one
 pub alone-after :
-    (m : Machine) (answer : Answer) (a : ℕ) (p : Private) (n : ℕ) → IsReachedAlone m answer a p → IsReachedAlone m answer a (after m answer a p n)
+    (m : Machine) (answer : Answer) (a : ℕ) (p : Private) (n : ℕ) → IsReachedAlone m answer a p →
+    IsReachedAlone m answer a (after m answer a p n)
 alone-after m answer a p n r =
     elim (cases_Bool (is_followed m (named_next m answer a p p.place) n)) [
       | inl e ↦ alone-followed m answer a p n r e

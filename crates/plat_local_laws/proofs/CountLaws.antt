@@ -1,8 +1,10 @@
 -- how many items of each kind a processor's journal has: each number that is followed keeps the bounds
-use Rattle.std.proofs.Common.{◌≡◌, ℕ, zero, suc, ◌+◌, ◌*◌, ◌<◌, ◌≤◌, Bool, true, false, List, [], ◌∷◌, ◌++◌, length, Some, None, refl, arith, ap, sym, ◌∙◌, get_or, set, sum_by, count_by, replicate}
+use Rattle.std.proofs.Common.{◌≡◌, ℕ, zero, suc, ◌+◌, ◌*◌, ◌<◌, ◌≤◌, Bool, true, false, List, [], ◌∷◌, ◌++◌, length, Some, None, refl}
+use Rattle.std.proofs.Common.{arith, ap, sym, ◌∙◌, get_or, set, sum_by, count_by, replicate}
 use Rattle.std.specs.Prelude.{◌==◌, nat_lt, not, if◌then◌else◌, Option, slice_set, is_some, unwrap_or}
 use Rattle.std.proofs.lemmas.Bool.{cond_both, eqb-true}
 use Rattle.std.proofs.lemmas.List.Sums.{sum_by-append}
+use Rattle.plat_base.specs.Items.{is_change, is_applied}
 use Rattle.plat_base.specs.Verdicts.{Answer}
 use Rattle.plat_base.specs.Machine.{Machine}
 use Rattle.plat_base.specs.GuestRun.{Reach, want_of}
@@ -11,10 +13,7 @@ use Rattle.plat_base.specs.Held.{serves, has_right, kept_of, told}
 use Rattle.plat_base.specs.Rules.{may_apply}
 use Rattle.plat_base.specs.Accesses.{cause_of, right_of}
 use Rattle.plat_base.specs.declared.frames.Dir.{Dir}
-use Rattle.plat_base.specs.declared.items.Access.{Access}
-use Rattle.plat_base.specs.declared.items.Change.{Change}
 use Rattle.plat_base.specs.declared.items.Applied.{Applied}
-use Rattle.plat_base.specs.declared.items.Switch.{Switch}
 use Rattle.plat_base.specs.declared.items.Kind.{Kind}
 use Rattle.plat_base.specs.declared.items.Kind.TheVariants as kind
 use Rattle.plat_base.specs.declared.items.Message.{Message}
@@ -33,18 +32,26 @@ use Rattle.plat_base.specs.declared.guests.Want.TheVariants as want
 use Rattle.plat_events.specs.Words.{has_bit, has_invalidate, has_restrict}
 use Rattle.plat_events.specs.Places.{entry_count}
 use Rattle.plat_events.specs.Shootdowns.{own_post}
-use Rattle.plat_events.specs.Sessions.{Fault, Phase, Stamping, Seeking, Taking, Returning, Shooting, Filling, Reading, Copying, Giving, Storing, Granting, Unlocking, Session, Course, decision_of, entry_faulted, change_made, translation_made}
-use Rattle.plat_events.specs.Privates.{Onward, NewTurn, TurnOver, Relock, Rewait, Place, Polling, Looking, Applying, Ticking, Switching, Loading, Expecting, Exchanging, Locking, InSession, Leaving, Lessening, Gone, LiveLooking, TimeLooking, Over, Private, first_place, first_private, translation_at}
+use Rattle.plat_events.specs.Sessions.{Fault, Phase, Stamping, Seeking, Taking, Returning, Shooting, Filling, Reading, Copying, Giving}
+use Rattle.plat_events.specs.Sessions.{Storing, Granting, Unlocking, Session, Course, decision_of, entry_faulted, change_made}
+use Rattle.plat_events.specs.Sessions.{translation_made}
+use Rattle.plat_events.specs.Privates.{Onward, NewTurn, TurnOver, Relock, Rewait, Place, Polling, Looking, Applying, Ticking, Switching}
+use Rattle.plat_events.specs.Privates.{Loading, Expecting, Exchanging, Locking, InSession, Leaving, Lessening, Gone, LiveLooking}
+use Rattle.plat_events.specs.Privates.{TimeLooking, Over, Private, first_place, first_private, translation_at}
 use Rattle.plat_events.specs.Scans.{entry_scanned, turn_over, go_on, scan_from, poll_place, look_place}
-use Rattle.plat_events.specs.Events.{at, reach_now, entry_of, look_up_place, lock_place_after, turn_does, page_done, apply_message, drop_own, access_over, session_moved, moved_at, access_made, applied_item, session_item, item_at, named_next, is_followed}
+use Rattle.plat_events.specs.Events.{at, reach_now, entry_of, look_up_place, lock_place_after, turn_does, page_done, apply_message}
+use Rattle.plat_events.specs.Events.{drop_own, access_over, session_moved, moved_at, access_made, applied_item, session_item, item_at}
+use Rattle.plat_events.specs.Events.{named_next, is_followed}
 use Rattle.plat_events.specs.Standings.{unlocking_of}
 use Rattle.plat_events.specs.Shown.{bit_of}
 use Rattle.plat_local_laws.specs.Faults.{IsFaultNow}
 use Rattle.plat_local_laws.specs.Phases.{SessionOk}
 use Rattle.plat_local_laws.specs.Standing.{PlaceOk}
-use Rattle.plat_local_laws.specs.Numbers.{faults_behind, is_undone, is_in_turn, is_faulting, is_granted, is_change, is_operation, is_message, messages_left}
+use Rattle.plat_local_laws.specs.Numbers.{faults_behind, is_undone, is_in_turn, is_faulting, is_granted, is_operation}
+use Rattle.plat_local_laws.specs.Numbers.{messages_left}
 use Rattle.plat_local_laws.proofs.SessionLaws.{session_at}
-use Rattle.plat_local_laws.proofs.GuestStepLaws.{with_made, access_now, turn_over-done, scan_from-in_turn, poll_place-in_turn, look_place-in_turn}
+use Rattle.plat_local_laws.proofs.GuestStepLaws.{with_made, access_now, turn_over-done, scan_from-in_turn, poll_place-in_turn}
+use Rattle.plat_local_laws.proofs.GuestStepLaws.{look_place-in_turn}
 
 -- ---- how many items of each kind
 
@@ -55,7 +62,7 @@ abbrev pub operations_in : List Item → ℕ
 operations_in items = count_by is_operation items
 
 abbrev pub messages_in : List Item → ℕ
-messages_in items = count_by is_message items
+messages_in items = count_by is_applied items
 
 count_by-one : (p : Item → Bool) (xs : List Item) (i : Item) → count_by p (xs ++ i ∷ []) ≡ count_by p xs + (if p i then 1 else 0)
 count_by-one p xs i = omega (arith, sum_by-append (λ x. if p x then 1 else 0) xs (i ∷ []))
@@ -66,32 +73,13 @@ record Counted (items : List Item) (i : Item) (c o s : ℕ) : Type 0 where
   operations : operations_in (items ++ i ∷ []) ≡ operations_in items + o
   messages : messages_in (items ++ i ∷ []) ≡ messages_in items + s
 
-counted-access : (xs : List Item) (x : Access) → Counted xs (item.Access x) 0 1 0
-counted-access xs x = record {
-  changes = count_by-one is_change xs (item.Access x);
-  operations = count_by-one is_operation xs (item.Access x);
-  messages = count_by-one is_message xs (item.Access x);
-}
-
-counted-change : (xs : List Item) (x : Change) → Counted xs (item.Change x) 1 0 0
-counted-change xs x = record {
-  changes = count_by-one is_change xs (item.Change x);
-  operations = count_by-one is_operation xs (item.Change x);
-  messages = count_by-one is_message xs (item.Change x);
-}
-
-counted-applied : (xs : List Item) (x : Applied) → Counted xs (item.Applied x) 0 0 1
-counted-applied xs x = record {
-  changes = count_by-one is_change xs (item.Applied x);
-  operations = count_by-one is_operation xs (item.Applied x);
-  messages = count_by-one is_message xs (item.Applied x);
-}
-
-counted-switch : (xs : List Item) (x : Switch) → Counted xs (item.Switch x) 0 1 0
-counted-switch xs x = record {
-  changes = count_by-one is_change xs (item.Switch x);
-  operations = count_by-one is_operation xs (item.Switch x);
-  messages = count_by-one is_message xs (item.Switch x);
+counted :
+    (xs : List Item) (i : Item) →
+    Counted xs i (if is_change i then 1 else 0) (if is_operation i then 1 else 0) (if is_applied i then 1 else 0)
+counted xs i = record {
+  changes = count_by-one is_change xs i;
+  operations = count_by-one is_operation xs i;
+  messages = count_by-one is_applied xs i;
 }
 
 -- ---- the bounds
@@ -182,7 +170,8 @@ kept_of-not_more removed.Writes None = omega arith
 kept_of-not_more removed.Writes (Some t) = omega arith
 kept_of-not_more removed.All t = omega arith
 
-drop_own-not_more : (p : Private) (rem : Removed) (o : Option ℕ) → sum_by messages_left (drop_own p rem o).pmap ≤ sum_by messages_left p.pmap
+drop_own-not_more : (p : Private) (rem : Removed) (o : Option ℕ) →
+    sum_by messages_left (drop_own p rem o).pmap ≤ sum_by messages_left p.pmap
 drop_own-not_more p rem None = omega arith
 drop_own-not_more p rem (Some e) =
     omega (arith, sum-set p.pmap e (kept_of rem (translation_at p e)), kept_of-not_more rem (translation_at p e))
@@ -204,7 +193,8 @@ go_on-faulting m t (Relock fault) = refl
 go_on-faulting m t (Rewait s) = refl
 
 scan_from-faulting :
-    (m : Machine) (t space i : ℕ) (moment : Moment) (onward : Onward) → is_faulting (scan_from m t space i moment onward) ≡ faults_behind onward
+    (m : Machine) (t space i : ℕ) (moment : Moment) (onward : Onward) → is_faulting (scan_from m t space i moment onward)
+    ≡ faults_behind onward
 scan_from-faulting m t space i moment onward =
     cond_both (nat_lt i _) (Looking i moment onward) (go_on m t onward) (λ x. is_faulting x ≡ faults_behind onward)
     (λ _. refl) (λ _. go_on-faulting m t onward)
@@ -236,7 +226,7 @@ look_up-faulting :
 look_up-faulting m p r h =
     rw h (cond_both (is_write r.kind) Expecting Loading (λ x. is_faulting x ≡ false) (λ _. refl) (λ _. refl))
 
-serves-cause : (k : Kind) → serves k (right_of (cause_of k)) ≡ true
+pub serves-cause : (k : Kind) → serves k (right_of (cause_of k)) ≡ true
 serves-cause kind.Load = refl
 serves-cause kind.Store = refl
 serves-cause kind.Add = refl
@@ -272,7 +262,7 @@ apply-counts a p q e msg moment h t w f i g =
     let s = sum-set p.pmap e (told msg (translation_at p e)) in
     let w' = ap (λ l. sum_by messages_left l) w in
     cond_both (may_apply msg (translation_at p e)) (Some (item.Applied x)) None (λ o. CountsOk (with_made p q o))
-    (λ k. counts-item p (with_made p q (Some (item.Applied x))) (item.Applied x) 0 0 1 h (counted-applied p.journal x) t refl
+    (λ k. counts-item p (with_made p q (Some (item.Applied x))) (item.Applied x) 0 0 1 h (counted p.journal (item.Applied x)) t refl
     (omega (arith, s, w', told-left msg (translation_at p e) k)) (omega (arith, le_of (is_faulting q.place) (is_faulting p.place) f))
     (omega (arith, le_of (is_in_turn q.place) (is_in_turn p.place) i)) (omega (arith, le_none (is_granted p.place) 0 g)))
     (λ k. counts-still p (with_made p q None) h t refl (omega (arith, s, w', told-not_more msg (translation_at p e)))
@@ -303,7 +293,7 @@ exchange-counts :
     → is_granted p.place ≡ false
     → CountsOk (with_made p (if same then access_over m a p n else at p (Exchanging n)) (if same then Some (access_made m a p n) else None))
 exchange-counts m a p n true h f e g =
-    over-counts p _ _ h (counted-access p.journal _) refl refl refl (turn_over-faulting m p.turns) (turn_over-done m p.turns) e g
+    over-counts p _ _ h (counted p.journal (item.Access _)) refl refl refl (turn_over-faulting m p.turns) (turn_over-done m p.turns) e g
 exchange-counts m a p n false h f e g =
     counts-still p _ h refl refl (omega arith) (omega arith) (rw e (omega arith)) (le_none (is_granted p.place) _ g)
 
@@ -355,7 +345,7 @@ session-counts m answer a p n f d (Unlocking c) l h e s =
     let right = granted-right m answer a p f d (Unlocking c) p.now c fault (s.phase.granted l) in
     cond_both (a == m.nodes) (page_done m p f.page) _ (λ q. CountsOk (with_made p q (Some i)))
     (λ q. absurd (omega (arith, eqb-true a m.nodes q)))
-    (λ _. counts-item p _ i 1 0 0 h (counted-change p.journal _) refl refl (omega arith)
+    (λ _. counts-item p _ i 1 0 0 h (counted p.journal (item.Change _)) refl refl (omega arith)
     (rw (look_up-faulting m p (reach_now m a p) right, ap is_faulting e) (omega arith))
     (rw (ap is_in_turn e) (omega (arith, bit-most (is_in_turn (look_up_place m p (reach_now m a p))))))
     (rw (ap is_granted e) (omega arith)))
@@ -394,11 +384,11 @@ place-counts m answer a p n Ticking l e h k w =
     tick-counts m a p (record p { turns = p.turns + 1; now = n + 1 }) (want_of m a p.guest) h refl refl (ap is_faulting e)
     (ap is_in_turn e) (ap is_granted e)
 place-counts m answer a p n (Switching space) l e h k w =
-    over-counts p _ _ h (counted-switch p.journal (record { actor = a; space = space })) refl refl refl
+    over-counts p _ _ h (counted p.journal (item.Switch (record { actor = a; space = space }))) refl refl refl
     (scan_from-faulting m p.turns space 0 moment.Activation TurnOver) (scan_from-in_turn m p.turns space 0 moment.Activation TurnOver)
     (ap is_in_turn e) (ap is_granted e)
 place-counts m answer a p n Loading l e h k w =
-    over-counts p _ _ h (counted-access p.journal (access_now m a p n)) refl refl refl (turn_over-faulting m p.turns)
+    over-counts p _ _ h (counted p.journal (item.Access (access_now m a p n))) refl refl refl (turn_over-faulting m p.turns)
     (turn_over-done m p.turns) (ap is_in_turn e) (ap is_granted e)
 place-counts m answer a p n Expecting l e h k w =
     counts-still p _ h refl refl (omega arith) (omega arith) (rw (ap is_in_turn e) (omega arith))
@@ -438,7 +428,7 @@ counts-first m a l =
 
 -- ---- the room of a journal
 
-kinds : (i : Item) → (if is_change i then 1 else 0) + (if is_operation i then 1 else 0) + (if is_message i then 1 else 0) ≡ 1
+kinds : (i : Item) → (if is_change i then 1 else 0) + (if is_operation i then 1 else 0) + (if is_applied i then 1 else 0) ≡ 1
 kinds (item.Access x) = refl
 kinds (item.Change x) = refl
 kinds (item.Applied x) = refl
@@ -453,7 +443,7 @@ length-kinds (i ∷ is) =
       length-kinds is,
       sum_by-append (λ x. if is_change x then 1 else 0) (i ∷ []) is,
       sum_by-append (λ x. if is_operation x then 1 else 0) (i ∷ []) is,
-      sum_by-append (λ x. if is_message x then 1 else 0) (i ∷ []) is,
+      sum_by-append (λ x. if is_applied x then 1 else 0) (i ∷ []) is,
     )
 
 granted-faulting : (x : Place) → bit_of (is_granted x) ≤ bit_of (is_faulting x)

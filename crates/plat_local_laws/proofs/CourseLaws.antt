@@ -1,5 +1,6 @@
 -- the row of a session: the modules that are tried, the frame in hand, and the frames that are given back
-use Rattle.std.proofs.Common.{◌≡◌, ◌≢◌, ℕ, zero, suc, ◌+◌, ◌<◌, ◌≤◌, Bool, true, false, List, [], ◌∷◌, length, Some, None, refl, arith, ap, sym, ◌∙◌, ◌⊎◌, inl, inr, filter, fold}
+use Rattle.std.proofs.Common.{◌≡◌, ◌≢◌, ℕ, zero, suc, ◌+◌, ◌<◌, ◌≤◌, Bool, true, false, List, [], ◌∷◌, length, Some, None, refl, arith, ap}
+use Rattle.std.proofs.Common.{sym, ◌∙◌, ◌⊎◌, inl, inr, filter, fold}
 use Rattle.std.specs.Prelude.{◌==◌, ◌&&◌, ◌||◌, nat_lt, if◌then◌else◌, not, Option, is_none, is_some, slice_index}
 use Rattle.std.specs.List.{list_all, list_any, range_with_len}
 use Rattle.std.proofs.lemmas.Bool.{cond_both, ltb-true, lt-ltb, eq-eqb, ne_eqb, and_parts, and_from, or_from}
@@ -9,7 +10,10 @@ use Rattle.plat_base.specs.Machine.{Machine}
 use Rattle.plat_base.specs.Copies.{copy_on, same_frame}
 use Rattle.plat_base.specs.Alike.{same_verdict}
 use Rattle.plat_base.specs.Held.{removes_all}
-use Rattle.plat_base.specs.Decide.{Row, ReadFill, ReadLocal, ReadRemote, ReadCopy, ReadRemoteDirty, ReadCopyDirty, WriteFill, WriteLocal, WriteRemote, WriteMove, CollapseHere, CollapseNear, WriteMoveMany, Thawed, row_does, row_of, moves_page, frozen_after, decide, may_decide, fits_cause, fits_fault, is_dir, is_empty, is_frame, is_some_frame, is_frame_on, modules_rise, asks}
+use Rattle.plat_base.specs.Decide.{Row, ReadFill, ReadLocal, ReadRemote, ReadCopy, ReadRemoteDirty, ReadCopyDirty, WriteFill, WriteLocal}
+use Rattle.plat_base.specs.Decide.{WriteRemote, WriteMove, CollapseHere, CollapseNear, WriteMoveMany, Thawed, row_does, row_of, moves_page}
+use Rattle.plat_base.specs.Decide.{frozen_after, decide, may_decide, fits_cause, fits_fault, is_dir, is_empty, is_frame, is_some_frame}
+use Rattle.plat_base.specs.Decide.{is_frame_on, modules_rise, asks}
 use Rattle.plat_base.proofs.CopiesLemmas.{same_frame-itself}
 use Rattle.plat_base.specs.declared.frames.Frame.{Frame}
 use Rattle.plat_base.specs.declared.frames.Dir.{Dir}
@@ -30,7 +34,8 @@ use Rattle.plat_local_laws.specs.Phases.{gives_frames, CourseOk}
 -- ---- the modules that are tried
 
 insert_near-all :
-    (p : ℕ → Bool) (m : Machine) (node mo : ℕ) (xs : List ℕ) → p mo ≡ true → list_all p xs ≡ true → list_all p (insert_near m node mo xs) ≡ true
+    (p : ℕ → Bool) (m : Machine) (node mo : ℕ) (xs : List ℕ) → p mo ≡ true → list_all p xs ≡ true → list_all p (insert_near m node mo xs)
+    ≡ true
 insert_near-all p m node mo [] h k = grind (arith, nat_tests)
 insert_near-all p m node mo (x ∷ xs) h k = grind (arith, nat_tests, insert_near-all p m node mo xs)
 
@@ -81,7 +86,8 @@ fits_cause-fault m answer dir last now node cause.Read got h = refl
 fits_cause-fault m answer dir last now node cause.Write got h = refl
 fits_cause-fault m answer dir last now node cause.Thaw got h = absurd (h refl)
 
-fits_none : (m : Machine) (dir : Dir) (asked moves : Bool) (node : ℕ) → is_empty dir.state ≡ false → fits_fault m dir asked moves node None ≡ true
+fits_none : (m : Machine) (dir : Dir) (asked moves : Bool) (node : ℕ) → is_empty dir.state ≡ false → fits_fault m dir asked moves node None
+    ≡ true
 fits_none m dir true true node e = rw e
 fits_none m dir true false node e = rw e
 fits_none m dir false moves node e = rw e
@@ -129,7 +135,8 @@ copy_on-head f fs = rw (eq-eqb f.module f.module refl)
 copy_on-tail : (f g : Frame) (fs : List Frame) → g.module ≢ f.module → copy_on f.module (g ∷ fs) ≡ copy_on f.module fs
 copy_on-tail f g fs n = rw (ne_eqb g.module f.module n)
 
-rises : (low : ℕ) (f : Frame) (fs : List Frame) → modules_rise low (f ∷ fs) ≡ true → (low ≤ f.module) × (modules_rise (f.module + 1) fs ≡ true)
+pub rises : (low : ℕ) (f : Frame) (fs : List Frame) → modules_rise low (f ∷ fs) ≡ true →
+    (low ≤ f.module) × (modules_rise (f.module + 1) fs ≡ true)
 rises low f fs h = grind (arith, nat_tests)
 
 all_kept :
@@ -195,7 +202,8 @@ decide-removes :
     → (decide m answer b last now n c got).removed ≢ removed.All
 decide-removes m answer b last now n c got t g e =
     let v = answer b last now in
-    let row = row_does-removes m (row_of c b.state (is_some (copy_on n b.copies)) (moves_page v got)) b (frozen_after (asks c b n) v b.frozen) n got in
+    let row = row_does-removes m (row_of c b.state (is_some (copy_on n b.copies)) (moves_page v got)) b
+    (frozen_after (asks c b n) v b.frozen) n got in
     let all : removes_all (decide m answer b last now n c got).removed ≡ true = ap removes_all e in
     let none : removes_all (decide m answer b last now n c got).removed ≡ false =
     row ∙ or_from (gives_frames (decide m answer b last now n c got).action) (is_thaw (decide m answer b last now n c got).action) g
@@ -220,7 +228,8 @@ pub fault_decides :
 fault_decides m answer a p s c f k l =
     decide_facts m answer s.dir c.stamp.last p.now a s.fault.cause c.got (cause-fault m a p s f l) k.may
 
-thaw_got : (m : Machine) (answer : Answer) (b : Dir) (last : Option ℕ) (now n : ℕ) (got : Option Frame) → may_decide m answer b last now n cause.Thaw got ≡ true → (b.frozen ≡ true) × (got ≡ None)
+thaw_got : (m : Machine) (answer : Answer) (b : Dir) (last : Option ℕ) (now n : ℕ) (got : Option Frame) →
+    may_decide m answer b last now n cause.Thaw got ≡ true → (b.frozen ≡ true) × (got ≡ None)
 thaw_got m answer b last now n None h =
     (grind (arith, nat_tests, and_parts (is_dir m b) (fits_cause m answer b last now n cause.Thaw None) h), refl)
 thaw_got m answer b last now n (Some f) h =

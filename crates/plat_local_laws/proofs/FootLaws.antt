@@ -1,24 +1,26 @@
 -- what one operation changes of an actor: its turns, its tick, whether it has ended, and the space that it is active in
-use Rattle.std.proofs.Common.{◌≡◌, ℕ, ◌+◌, ◌*◌, ◌/◌, Some, None, refl, arith, ap, ◌∙◌}
-use Rattle.std.specs.Prelude.{◌==◌, nat_lt, Option}
+use Rattle.std.proofs.Common.{◌≡◌, ℕ, ◌+◌, ◌*◌, ◌/◌, refl, arith, ap, ◌∙◌}
+use Rattle.std.specs.Prelude.{◌==◌, nat_lt}
 use Rattle.std.proofs.lemmas.Bool.{cond_both}
 use Rattle.plat_base.specs.Verdicts.{Answer}
 use Rattle.plat_base.specs.Machine.{Machine}
 use Rattle.plat_base.specs.GuestRun.{GuestState, want_of, guest_after}
 use Rattle.plat_base.specs.declared.frames.Dir.{Dir}
-use Rattle.plat_base.specs.declared.items.Removed.{Removed}
 use Rattle.plat_base.specs.declared.endings.End.TheVariants as end
 use Rattle.plat_base.specs.declared.guests.Want.{Want}
 use Rattle.plat_base.specs.declared.guests.Want.TheVariants as want
 use Rattle.plat_laws.proofs.GuestLaws.{space-guest_after, space_after}
 use Rattle.plat_events.specs.Words.{value_read}
 use Rattle.plat_events.specs.Shootdowns.{own_post}
-use Rattle.plat_events.specs.Sessions.{Fault, Phase, Stamping, Seeking, Taking, Returning, Shooting, Filling, Reading, Copying, Giving, Storing, Granting, Unlocking, decision_of}
-use Rattle.plat_events.specs.Privates.{Place, Polling, Looking, Applying, Ticking, Switching, Loading, Expecting, Exchanging, Locking, InSession, Leaving, Lessening, Gone, LiveLooking, TimeLooking, Over, Private, period}
-use Rattle.plat_events.specs.Events.{at, turn_does, thaw_of, page_done, drop_own, access_over, session_moved, moved_at}
+use Rattle.plat_events.specs.Sessions.{Fault, Phase, Stamping, Seeking, Taking, Returning, Shooting, Filling, Reading, Copying, Giving}
+use Rattle.plat_events.specs.Sessions.{Storing, Granting, Unlocking, decision_of}
+use Rattle.plat_events.specs.Privates.{Place, Polling, Looking, Applying, Ticking, Switching, Loading, Expecting, Exchanging, Locking}
+use Rattle.plat_events.specs.Privates.{InSession, Leaving, Lessening, Gone, LiveLooking, TimeLooking, Over, Private, period}
+use Rattle.plat_events.specs.Events.{at, turn_does, thaw_of, page_done, access_over, session_moved, moved_at}
 use Rattle.plat_local_laws.specs.Faults.{WantsAccess}
 use Rattle.plat_local_laws.specs.Standing.{PlaceOk}
 use Rattle.plat_local_laws.proofs.SessionLaws.{session_at}
+use Rattle.plat_local_laws.proofs.GuestStepLaws.{drop_own-still}
 
 -- ---- turns
 
@@ -49,11 +51,8 @@ turn_does-turns m a p (want.Print v) = refl
 turn_does-turns m a p want.Halted = refl
 turn_does-turns m a p want.Trap = refl
 
-drop_own-turns : (p : Private) (rem : Removed) (o : Option ℕ) → ((drop_own p rem o).turns ≡ p.turns) × ((drop_own p rem o).guest ≡ p.guest)
-drop_own-turns p rem None = (refl, refl)
-drop_own-turns p rem (Some e) = (refl, refl)
-
-pub page_done-still : (m : Machine) (p : Private) (page : ℕ) → ((page_done m p page).turns ≡ p.turns) × ((page_done m p page).guest ≡ p.guest)
+pub page_done-still : (m : Machine) (p : Private) (page : ℕ) → ((page_done m p page).turns ≡ p.turns)
+    × ((page_done m p page).guest ≡ p.guest)
 page_done-still m p page =
     cond_both (nat_lt (page + 1) m.pages) (at p (Locking (thaw_of (page + 1))))
     (record p { due = (p.now / period m.policy + 1) * period m.policy; place = LiveLooking })
@@ -70,7 +69,7 @@ session-still m answer a p n f d Returning =
     cond_both (a == m.nodes) (page_done m p f.page) (at p (Leaving end.NoFrames)) (λ x. (x.turns ≡ p.turns) × (x.guest ≡ p.guest))
     (λ _. page_done-still m p f.page) (λ _. (refl, refl))
 session-still m answer a p n f d (Shooting c shot) =
-    drop_own-turns p (decision_of m answer a p.now (session_at f d (Shooting c shot)) c).removed (own_post m a f.page c.posts n shot)
+    drop_own-still p (decision_of m answer a p.now (session_at f d (Shooting c shot)) c).removed (own_post m a f.page c.posts n shot)
 session-still m answer a p n f d (Filling c w) = (refl, refl)
 session-still m answer a p n f d (Reading c w) = (refl, refl)
 session-still m answer a p n f d (Copying c w seen) = (refl, refl)

@@ -1,5 +1,6 @@
 -- the guest and its journal: each number that is followed keeps them together
-use Rattle.std.proofs.Common.{◌≡◌, ℕ, ◌+◌, ◌*◌, ◌/◌, ◌<◌, Bool, true, false, [], ◌∷◌, Some, None, refl, arith, ap, sym, subst, ◌∙◌, inl, inr}
+use Rattle.std.proofs.Common.{◌≡◌, ℕ, ◌+◌, ◌*◌, ◌/◌, ◌<◌, Bool, true, false, [], ◌∷◌, Some, None, refl, arith, ap, sym, subst, ◌∙◌, inl}
+use Rattle.std.proofs.Common.{inr}
 use Rattle.std.specs.Prelude.{◌==◌, nat_lt, if◌then◌else◌, Option}
 use Rattle.std.proofs.lemmas.Bool.{cond_both, eqb-true, true≢false}
 use Rattle.plat_base.specs.Verdicts.{Answer}
@@ -27,10 +28,15 @@ use Rattle.plat_laws.specs.Guests.{IsWithinLimits}
 use Rattle.plat_laws.proofs.GuestLaws.{IsGuest-start}
 use Rattle.plat_events.specs.Words.{has_bit, has_invalidate, has_restrict, is_locked, value_read, version_read}
 use Rattle.plat_events.specs.Shootdowns.{Shoot, Makes, Polls, Done, shot_after, own_post}
-use Rattle.plat_events.specs.Sessions.{Fault, Phase, Stamping, Seeking, Taking, Returning, Shooting, Filling, Reading, Copying, Giving, Storing, Granting, Unlocking, Session, decision_of, change_made}
-use Rattle.plat_events.specs.Privates.{Onward, NewTurn, TurnOver, Relock, Rewait, Place, Polling, Looking, Applying, Ticking, Switching, Loading, Expecting, Exchanging, Locking, InSession, Leaving, Lessening, Gone, LiveLooking, TimeLooking, Over, Private, actor_count, first_place, first_private, period, translation_at}
+use Rattle.plat_events.specs.Sessions.{Fault, Phase, Stamping, Seeking, Taking, Returning, Shooting, Filling, Reading, Copying, Giving}
+use Rattle.plat_events.specs.Sessions.{Storing, Granting, Unlocking, Session, decision_of, change_made}
+use Rattle.plat_events.specs.Privates.{Onward, NewTurn, TurnOver, Relock, Rewait, Place, Polling, Looking, Applying, Ticking, Switching}
+use Rattle.plat_events.specs.Privates.{Loading, Expecting, Exchanging, Locking, InSession, Leaving, Lessening, Gone, LiveLooking}
+use Rattle.plat_events.specs.Privates.{TimeLooking, Over, Private, actor_count, first_place, first_private, period, translation_at}
 use Rattle.plat_events.specs.Scans.{entry_scanned, turn_over, go_on, scan_from, poll_place, look_place}
-use Rattle.plat_events.specs.Events.{at, reach_now, entry_of, frame_by, seq_by, translation_now, look_up_place, turn_does, lock_place_after, thaw_of, page_done, apply_message, drop_own, shoot_place, access_over, session_moved, moved_at, access_made, applied_item, session_item, item_at, named_next, is_followed, with_item}
+use Rattle.plat_events.specs.Events.{at, reach_now, entry_of, frame_by, seq_by, translation_now, look_up_place, turn_does, lock_place_after}
+use Rattle.plat_events.specs.Events.{thaw_of, page_done, apply_message, drop_own, shoot_place, access_over, session_moved, moved_at}
+use Rattle.plat_events.specs.Events.{access_made, applied_item, session_item, item_at, named_next, is_followed, with_item}
 use Rattle.plat_events.specs.Shown.{IsReachedAlone}
 use Rattle.plat_local_laws.specs.Faults.{WantsAccess}
 use Rattle.plat_local_laws.specs.Standing.{PlaceOk, StandingOk}
@@ -40,7 +46,8 @@ use Rattle.plat_local_laws.proofs.CourseLaws.{IsActor}
 use Rattle.plat_local_laws.proofs.TurnLaws.{reach_now-wanted}
 use Rattle.plat_local_laws.proofs.SessionLaws.{session_at}
 use Rattle.plat_local_laws.proofs.StandingLaws.{actor-is, standing-kept, standing-first}
-use Rattle.plat_local_laws.proofs.GuestTurnLaws.{items_by-one, guest-item, guest-still, guest-daemon, guest-daemon_still, guest-ticked, guest-local, guest-switch, guest-access, is_done-made}
+use Rattle.plat_local_laws.proofs.GuestTurnLaws.{items_by-one, guest-item, guest-still, guest-daemon, guest-daemon_still, guest-ticked}
+use Rattle.plat_local_laws.proofs.GuestTurnLaws.{guest-local, guest-switch, guest-access, is_done-made}
 
 -- ---- whether the turn is done, where a scan or a look-up leads
 
@@ -55,7 +62,8 @@ go_on-in_turn m t (Relock fault) = refl
 go_on-in_turn m t (Rewait s) = refl
 
 pub scan_from-in_turn :
-    (m : Machine) (t space i : ℕ) (moment : Moment) (onward : Onward) → is_in_turn (scan_from m t space i moment onward) ≡ faults_behind onward
+    (m : Machine) (t space i : ℕ) (moment : Moment) (onward : Onward) → is_in_turn (scan_from m t space i moment onward)
+    ≡ faults_behind onward
 scan_from-in_turn m t space i moment onward =
     cond_both (nat_lt i _) (Looking i moment onward) (go_on m t onward) (λ x. is_in_turn x ≡ faults_behind onward)
     (λ _. refl) (λ _. go_on-in_turn m t onward)
@@ -182,13 +190,15 @@ access-guest m a p n g l w e b =
 exchange-guest :
     (m : Machine) (a : ℕ) (p : Private) (n : ℕ) (same : Bool) → GuestOk m a p → a < m.nodes → WantsAccess m a p → is_in_turn p.place ≡ true
     → is_before_tick p.place ≡ false
-    → GuestOk m a (with_made p (if same then access_over m a p n else at p (Exchanging n)) (if same then Some (access_made m a p n) else None))
+    → GuestOk m a (with_made p (if same then access_over m a p n else at p (Exchanging n)) (if same then Some (access_made m a p n)
+    else None))
 exchange-guest m a p n true g l w e b = access-guest m a p n g l w e b
 exchange-guest m a p n false g l w e b = guest-still m a p _ g refl refl refl (sym e) (λ _. b)
 
 -- ---- sessions
 
-drop_own-still : (p : Private) (rem : Removed) (o : Option ℕ) → ((drop_own p rem o).turns ≡ p.turns) × ((drop_own p rem o).guest ≡ p.guest)
+pub drop_own-still :
+    (p : Private) (rem : Removed) (o : Option ℕ) → ((drop_own p rem o).turns ≡ p.turns) × ((drop_own p rem o).guest ≡ p.guest)
 drop_own-still p rem None = (refl, refl)
 drop_own-still p rem (Some e) = (refl, refl)
 
@@ -257,7 +267,8 @@ place-guest m answer a p n (Applying i msg moment onward) e g h k =
     (scan_from-in_turn m p.turns p.guest.space (i + 1) moment onward ∙ sym (ap is_in_turn e))
     (λ b. ap is_before_tick e ∙ scan_from-ticks m p.turns p.guest.space (i + 1) moment onward b)
 place-guest m answer a p n Ticking e g h k =
-    tick-guest m a p (record p { turns = p.turns + 1; now = n + 1 }) (want_of m a p.guest) g h.processor refl refl refl (ap is_in_turn e) refl
+    tick-guest m a p (record p { turns = p.turns + 1; now = n + 1 }) (want_of m a p.guest) g h.processor refl refl refl (ap is_in_turn e)
+    refl
 place-guest m answer a p n (Switching space) e g h k =
     guest-switch m a p _ space g h.processor h.wants refl refl refl (ap is_in_turn e) (ap is_before_tick e)
     (scan_from-in_turn m p.turns space 0 moment.Activation TurnOver)
@@ -306,7 +317,8 @@ guest-first m a actor =
         (λ q _. absurd (omega (arith, eqb-true a m.nodes q))) (λ _ k. true≢false k)
 
 pub guest_ok :
-    (m : Machine) (answer : Answer) (a : ℕ) (p : Private) → IsWithinLimits m → a < actor_count m → IsReachedAlone m answer a p → GuestOk m a p
+    (m : Machine) (answer : Answer) (a : ℕ) (p : Private) → IsWithinLimits m → a < actor_count m → IsReachedAlone m answer a p →
+    GuestOk m a p
 guest_ok m answer a p h l r =
     let actor = actor-is m a l in
     let both = alone-keeps m answer a (λ q. StandingOk m answer a q × GuestOk m a q)

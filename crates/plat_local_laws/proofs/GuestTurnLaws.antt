@@ -1,5 +1,6 @@
 -- the guest of a private state, where nothing of it is done and where a turn of it is done
-use Rattle.std.proofs.Common.{◌≡◌, ℕ, ◌+◌, ◌-◌, ◌<◌, ◌≤◌, Bool, true, false, List, [], ◌∷◌, ◌++◌, length, Some, None, refl, arith, add-one, ap, sym, ◌∙◌, ◌⊎◌, inl, inr}
+use Rattle.std.proofs.Common.{◌≡◌, ℕ, ◌+◌, ◌-◌, ◌<◌, ◌≤◌, Bool, true, false, List, [], ◌∷◌, ◌++◌, length, Some, None, refl, arith, add-one}
+use Rattle.std.proofs.Common.{ap, sym, ◌∙◌, ◌⊎◌, inl, inr}
 use Rattle.std.specs.Prelude.{◌==◌, if◌then◌else◌, Option, slice_get}
 use Rattle.std.specs.List.{cons_option}
 use Rattle.std.proofs.lemmas.Bool.{eq-eqb}
@@ -8,7 +9,8 @@ use Rattle.std.proofs.lemmas.List.Elements.{filter-append}
 use Rattle.plat_base.specs.Machine.{Machine, Program}
 use Rattle.plat_base.specs.Pages.{program_of}
 use Rattle.plat_base.specs.Alike.{kind_number}
-use Rattle.plat_base.specs.GuestRun.{GuestState, GuestRun, Reach, guest_run, guest_does, want_of, wanted, wanted_next, guest_after, executed, executed_next, reach_of, value_for, address, register}
+use Rattle.plat_base.specs.GuestRun.{GuestState, GuestRun, Reach, guest_run, guest_does, want_of, wanted, wanted_next, guest_after}
+use Rattle.plat_base.specs.GuestRun.{executed, executed_next, reach_of, value_for, address, register}
 use Rattle.plat_base.specs.Done.{values_of, operations_of, Accessed, Switched, reads_word, new_value, is_done_access}
 use Rattle.plat_base.specs.declared.guests.Instr.{Instr}
 use Rattle.plat_base.specs.declared.guests.Instr.TheVariants as instr
@@ -21,7 +23,8 @@ use Rattle.plat_base.specs.declared.items.Switch.{Switch}
 use Rattle.plat_base.specs.declared.items.Item.{Item}
 use Rattle.plat_base.specs.declared.items.Item.TheVariants as item
 use Rattle.plat_laws.specs.Guests.{IsGuest}
-use Rattle.plat_laws.proofs.GuestLaws.{slice_get-append_at, guest_run-next, guest_run-next_same, values_of-append, values_of-none, IsGuest-local, IsGuest-print, IsGuest-access, IsGuest-switch}
+use Rattle.plat_laws.proofs.GuestLaws.{slice_get-append_at, guest_run-next, guest_run-next_same, values_of-append, values_of-none}
+use Rattle.plat_laws.proofs.GuestLaws.{IsGuest-local, IsGuest-print, IsGuest-access, IsGuest-switch}
 use Rattle.plat_laws.proofs.EndLaws.{IsGuest-no_operations, values_of-no_operations}
 use Rattle.plat_laws.proofs.ItemLaws.{active-switch_own, active-access}
 use Rattle.plat_events.specs.Privates.{Private}
@@ -54,7 +57,8 @@ guest-more_done :
     → (a < m.nodes → is_before_tick q.place ≡ false → is_before_tick p.place ≡ false) → operations_of a more ≡ []
     → items_by a more ≡ more → GuestOk m a q
 guest-more_done m a p q more g t gs j done b ops own =
-    let vs : values_of a (p.journal ++ more) ≡ values_of a p.journal = values_of-none a p.journal more (values_of-no_operations a more ops) in
+    let vs : values_of a (p.journal ++ more) ≡ values_of a p.journal =
+    values_of-none a p.journal more (values_of-no_operations a more ops) in
     record {
       run = rw (j, done) (IsGuest-no_operations m p.journal more (turns_done p) a g.run ops);
       guest = rw (gs, j, done, vs) g.guest;
@@ -138,7 +142,8 @@ guest-local m a p q w g l wants kind t gs j e k =
       own = rw j g.own;
     }
   where
-    moved : (w ≡ want.Local) ⊎ ((v : ℕ) × (w ≡ want.Print v)) → (vs : List ℕ) (r : GuestRun) → (guest_does m a vs r w).state ≡ guest_after m a r.state 0
+    moved : (w ≡ want.Local) ⊎ ((v : ℕ) × (w ≡ want.Print v)) → (vs : List ℕ) (r : GuestRun) →
+        (guest_does m a vs r w).state ≡ guest_after m a r.state 0
     moved (inl h) vs r = rw h
     moved (inr h) vs r = rw h.1
 
@@ -196,7 +201,8 @@ access-state :
 access-state m q vs ws r k sp ad o v e = rw e
 
 -- a store uses no value
-trap-kind : (b : Bool) (k1 k2 : Kind) (sp1 ad1 o1 sp ad o : ℕ) → (if b then want.Access k1 sp1 ad1 o1 else want.Trap) ≡ want.Access k2 sp ad o → k1 ≡ k2
+trap-kind : (b : Bool) (k1 k2 : Kind) (sp1 ad1 o1 sp ad o : ℕ) → (if b then want.Access k1 sp1 ad1 o1 else want.Trap)
+    ≡ want.Access k2 sp ad o → k1 ≡ k2
 trap-kind true k1 k2 sp1 ad1 o1 sp ad o h = cc
 trap-kind false k1 k2 sp1 ad1 o1 sp ad o h = absurd cc
 
@@ -282,7 +288,8 @@ guest-access m a p q k sp ad o x g l wants mine kinds does t gs j e b out =
     ∙ access-state m a vs ws r k sp ad o (if reads_word k then x.old else 0) value) in
     record {
       run = rw (j, done)
-          (IsGuest-access m p.journal (item.Access x ∷ []) (turns_done p) a k sp ad o x g.run here found (operations_of-access a x mine) does
+          (IsGuest-access m p.journal (item.Access x ∷ []) (turns_done p) a k sp ad o x g.run here found (operations_of-access a x mine)
+          does
           (active-access m p.journal x a));
       guest = rw (gs, j, done, all, next)
           (ap (λ s. guest_after m a s x.old) g.guest ∙ value-found m a r.state k sp ad o x.old here);

@@ -1,7 +1,6 @@
 -- the guest of a history is the guest of its actor's part of it
-use Rattle.std.proofs.Common.{◌≡◌, ℕ, Bool, true, false, List, [], ◌∷◌, None, refl, ap, sym, subst, filter, fold, length}
+use Rattle.std.proofs.Common.{◌≡◌, ℕ, false, List, None, refl, sym, subst, length}
 use Rattle.std.specs.Prelude.{◌==◌, Option}
-use Rattle.std.specs.List.{filter_map, cons_option}
 use Rattle.plat_base.specs.Machine.{Machine}
 use Rattle.plat_base.specs.Pages.{program_of}
 use Rattle.plat_base.specs.GuestRun.{guest_run, GoesOn}
@@ -11,31 +10,9 @@ use Rattle.plat_base.specs.declared.items.Translation.{Translation}
 use Rattle.plat_base.specs.declared.items.Item.{Item}
 use Rattle.plat_base.specs.declared.items.Item.TheVariants as item
 use Rattle.plat_laws.specs.Guests.{IsGuest}
+use Rattle.plat_laws.proofs.ItemLaws.{fold-filter}
 use Rattle.plat_events.specs.Shown.{actor_of, items_by}
-
-filter_map-one :
-    {A B : Type 0} (f : A → Option B) (p : A → Bool) → ((x : A) → p x ≡ false → f x ≡ None) → (x : A) (xs : List A) (b : Bool)
-    → p x ≡ b → filter_map f (filter p xs) ≡ filter_map f xs → filter_map f (filter p (x ∷ xs)) ≡ filter_map f (x ∷ xs)
-filter_map-one f p h x xs true e k = rw e (ap (cons_option (f x)) k)
-filter_map-one f p h x xs false e k = rw (e, h x e) k
-
-filter_map-filter :
-    {A B : Type 0} (f : A → Option B) (p : A → Bool) → ((x : A) → p x ≡ false → f x ≡ None) → (xs : List A)
-    → filter_map f (filter p xs) ≡ filter_map f xs
-filter_map-filter f p h [] = refl
-filter_map-filter f p h (x ∷ xs) = filter_map-one f p h x xs (p x) refl (filter_map-filter f p h xs)
-
-fold-one :
-    {A S : Type 0} (f : S → A → S) (p : A → Bool) → ((s : S) (x : A) → p x ≡ false → f s x ≡ s) → (s : S) (x : A) (xs : List A)
-    (b : Bool) → p x ≡ b → ((s : S) → fold f s (filter p xs) ≡ fold f s xs) → fold f s (filter p (x ∷ xs)) ≡ fold f s (x ∷ xs)
-fold-one f p h s x xs true e k = rw e (k (f s x))
-fold-one f p h s x xs false e k = rw (e, h s x e) (k s)
-
-fold-filter :
-    {A S : Type 0} (f : S → A → S) (p : A → Bool) → ((s : S) (x : A) → p x ≡ false → f s x ≡ s) → (s : S) (xs : List A)
-    → fold f s (filter p xs) ≡ fold f s xs
-fold-filter f p h s [] = refl
-fold-filter f p h s (x ∷ xs) = fold-one f p h s x xs (p x) refl (λ y. fold-filter f p h y xs)
+use Rattle.plat_base.proofs.ListLemmas.{filter_map-filter}
 
 value_of-other : (q : ℕ) (i : Item) → (actor_of i == q) ≡ false → value_of q i ≡ None
 value_of-other q (item.Access a) h = rw h

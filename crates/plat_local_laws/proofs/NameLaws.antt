@@ -1,5 +1,6 @@
 -- the next operation of an actor is on a word of the machine
-use Rattle.std.proofs.Common.{◌≡◌, ◌≢◌, ℕ, zero, suc, ◌+◌, ◌<◌, Bool, true, false, List, [], ◌∷◌, length, Some, None, refl, arith, ap, ◌∙◌, inl, inr, filter, zip}
+use Rattle.std.proofs.Common.{◌≡◌, ◌≢◌, ℕ, zero, suc, ◌+◌, ◌<◌, Bool, true, false, List, [], ◌∷◌, length, Some, None, refl, arith, ap, ◌∙◌}
+use Rattle.std.proofs.Common.{inl, inr, filter, zip}
 use Rattle.std.specs.Prelude.{◌==◌, nat_lt, ◌&&◌, not, Option, slice_index}
 use Rattle.std.specs.List.{list_all, list_any, flat_map, range_with_len}
 use Rattle.std.proofs.lemmas.Bool.{lt-ltb, ltb-true, eqb-true, and_parts, and_from}
@@ -26,9 +27,13 @@ use Rattle.plat_laws.proofs.GuestLaws.{reach_of-word}
 use Rattle.plat_laws.proofs.TableLaws.{list_all_copy_on, copy_on-nearest, dir_parts, has_some}
 use Rattle.plat_events.specs.Words.{has_reference}
 use Rattle.plat_events.specs.Places.{entry_count, is_name}
-use Rattle.plat_events.specs.Shootdowns.{Shot, Posting, PostingOn, Asking, Interrupting, Watching, AskingAgain, Target, targets_of, targets, target_at, no_target, entry_posted, shot_next}
-use Rattle.plat_events.specs.Sessions.{Fault, Course, Phase, Stamping, Seeking, Taking, Returning, Shooting, Filling, Reading, Copying, Giving, Storing, Granting, Unlocking, Session, decision_of, going, frame_going, memory_at, session_next}
-use Rattle.plat_events.specs.Privates.{Place, Polling, Looking, Applying, Ticking, Switching, Loading, Expecting, Exchanging, Locking, InSession, Leaving, Lessening, Gone, LiveLooking, TimeLooking, Over, Private, actor_count}
+use Rattle.plat_events.specs.Shootdowns.{Shot, Posting, PostingOn, Asking, Interrupting, Watching, AskingAgain, Target, targets_of, targets}
+use Rattle.plat_events.specs.Shootdowns.{target_at, no_target, entry_posted, shot_next}
+use Rattle.plat_events.specs.Sessions.{Fault, Course, Phase, Stamping, Seeking, Taking, Returning, Shooting, Filling, Reading, Copying}
+use Rattle.plat_events.specs.Sessions.{Giving, Storing, Granting, Unlocking, Session, decision_of, going, frame_going, memory_at}
+use Rattle.plat_events.specs.Sessions.{session_next}
+use Rattle.plat_events.specs.Privates.{Place, Polling, Looking, Applying, Ticking, Switching, Loading, Expecting, Exchanging, Locking}
+use Rattle.plat_events.specs.Privates.{InSession, Leaving, Lessening, Gone, LiveLooking, TimeLooking, Over, Private, actor_count}
 use Rattle.plat_events.specs.Scans.{entry_scanned}
 use Rattle.plat_events.specs.Events.{reach_now, entry_of, frame_by, translation_now, memory_now, named_next}
 use Rattle.plat_events.specs.Shown.{IsReachedAlone}
@@ -53,7 +58,8 @@ filter-all : {X : Type 0} (p q : X → Bool) (xs : List X) → list_all p xs ≡
 filter-all p q [] h = refl
 filter-all p q (x ∷ xs) h = filter-one p q x xs (q x) refl h (filter-all p q xs (and_parts (p x) (list_all p xs) h).1)
 
-filter-passed : {X : Type 0} (q : X → Bool) (x : X) (xs : List X) (b : Bool) → q x ≡ b → list_all q (filter q xs) ≡ true → list_all q (filter q (x ∷ xs)) ≡ true
+filter-passed : {X : Type 0} (q : X → Bool) (x : X) (xs : List X) (b : Bool) → q x ≡ b → list_all q (filter q xs) ≡ true →
+    list_all q (filter q (x ∷ xs)) ≡ true
 filter-passed q x xs true e k = rw e (and_from (q x) (list_all q (filter q xs)) e k)
 filter-passed q x xs false e k = rw e k
 
@@ -88,7 +94,8 @@ zip-all p (x ∷ xs) (y ∷ ys) h =
 
 -- ---- entries
 
-entry_at-below : (test : ℕ → Bool) (n i : ℕ) → i < length (filter test (numbers n)) → nat_lt (slice_index (filter test (numbers n)) i) n ≡ true
+entry_at-below : (test : ℕ → Bool) (n i : ℕ) → i < length (filter test (numbers n)) → nat_lt (slice_index (filter test (numbers n)) i) n
+    ≡ true
 entry_at-below test n i l =
     list_all-get_or (λ e. nat_lt e n) (filter test (numbers n)) i 0 (filter-all (λ e. nat_lt e n) test (numbers n) (numbers-below n)) l
 
@@ -159,7 +166,7 @@ shot-names m a page rem posts (AskingAgain k) h = (target_at-below m a page post
 memory-name : (m : Machine) (f : Frame) (w : ℕ) → is_frame m f ≡ true → w < m.words → is_name m (memory_at f w) ≡ true
 memory-name m f w h l = and_from (is_frame m f) (nat_lt w m.words) h (lt-ltb w m.words l)
 
-has_right-some : (k : Kind) (t : Option Translation) → has_right k t ≡ true → (u : Translation) × (t ≡ Some u)
+pub has_right-some : (k : Kind) (t : Option Translation) → has_right k t ≡ true → (u : Translation) × (t ≡ Some u)
 has_right-some k None h = absurd cc
 has_right-some k (Some u) h = (u, refl)
 
@@ -193,22 +200,24 @@ filled-frame m answer a p s c does w (inr e) t f h =
     let no : does (decision_of m answer a p.now s c).action ≡ false = ap does thaws ∙ t in
     let does_so : does (decision_of m answer a p.now s c).action ≡ true = h.action in absurd cc
 
-copied : (x : Action) → copies_words x ≡ true → (x ≢ action.Fill) × (names_got x ≡ true)
-copied action.Fill h = absurd cc
-copied action.MapLocal h = absurd cc
-copied action.MapRemote h = absurd cc
-copied action.Replicate h = (λ e. cc, refl)
-copied action.Migrate h = (λ e. cc, refl)
-copied action.Collapse h = absurd cc
-copied action.Thaw h = absurd cc
+pub copies-got : (x : Action) → copies_words x ≡ true → (x ≢ action.Fill) × (names_got x ≡ true)
+copies-got action.Fill h = absurd cc
+copies-got action.MapLocal h = absurd cc
+copies-got action.MapRemote h = absurd cc
+copies-got action.Replicate h = (λ e. cc, refl)
+copies-got action.Migrate h = (λ e. cc, refl)
+copies-got action.Collapse h = absurd cc
+copies-got action.Thaw h = absurd cc
 
-nearest-frame : (m : Machine) (node : ℕ) (b : Dir) → is_dir m b ≡ true → is_empty b.state ≡ false → is_frame m (nearest m node b.copies) ≡ true
+nearest-frame : (m : Machine) (node : ℕ) (b : Dir) → is_dir m b ≡ true → is_empty b.state ≡ false → is_frame m (nearest m node b.copies)
+    ≡ true
 nearest-frame m node b h e =
     let parts = dir_parts m b h in
     list_all_copy_on (is_frame m) (nearest m node b.copies).module (nearest m node b.copies) b.copies
     (copy_on-nearest m node b.copies (has_some m b h e) parts.1) parts.0
 
-pub going-frame : (m : Machine) (b : Dir) (d : Decision) (k : ℕ) → is_dir m b ≡ true → k < length (going b d) → is_frame m (frame_going b d k) ≡ true
+pub going-frame : (m : Machine) (b : Dir) (d : Decision) (k : ℕ) → is_dir m b ≡ true → k < length (going b d) →
+    is_frame m (frame_going b d k) ≡ true
 going-frame m b d k h l =
     list_all-get_or (is_frame m) (going b d) k no_frame
     (filter-all (is_frame m) (λ f. not (list_any (same_frame f) d.after.copies)) b.copies (dir_parts m b h).0) l
@@ -234,7 +243,7 @@ session-names m answer a p f d (Filling c w) actor h =
 session-names m answer a p f d (Reading c w) actor h =
     let s = session_at f d (Reading c w) in
     let l = (filled-frame m answer a p s c copies_words w actor refl h.fault h.phase).0 in
-    let k = copied (decision_of m answer a p.now s c).action h.phase.action in
+    let k = copies-got (decision_of m answer a p.now s c).action h.phase.action in
     let some = (fault_decides m answer a p s c h.fault h.phase.quiet.course l).copied k.0 k.1 in
     memory-name m (nearest m a d.copies) w (nearest-frame m a d h.dir some) h.phase.left
 session-names m answer a p f d (Copying c w seen) actor h =

@@ -1,6 +1,7 @@
 -- accesses and switches of a processor are in order at every private state that it comes to, where its journal is its part of
 -- the history; and what its guest does next
-use Rattle.std.proofs.Common.{◌≡◌, ℕ, suc, ◌+◌, ◌<◌, ◌≤◌, Bool, true, false, List, Some, refl, arith, add-one, ap, sym, subst, ◌∙◌, ◌⊎◌, inl, inr}
+use Rattle.std.proofs.Common.{◌≡◌, ℕ, suc, ◌+◌, ◌<◌, ◌≤◌, Bool, true, false, List, Some, refl, arith, add-one, ap, sym, subst, ◌∙◌, ◌⊎◌}
+use Rattle.std.proofs.Common.{inl, inr}
 use Rattle.std.specs.Prelude.{◌==◌, ◌&&◌, ◌||◌}
 use Rattle.std.proofs.lemmas.Bool.{eq-eqb, and_from, or_right, or_left}
 use Rattle.plat_base.specs.Verdicts.{Answer}
@@ -17,7 +18,9 @@ use Rattle.plat_base.specs.declared.guests.Want.TheVariants as want
 use Rattle.plat_laws.specs.Guests.{IsGuest, IsWithinLimits}
 use Rattle.plat_laws.proofs.GuestLaws.{guest_run-next_same, next_operation-access, next_operation-switch, IsReach-wanted}
 use Rattle.plat_laws.proofs.EndLaws.{is_end-halted, is_end-trapped, is_end-spent, is_end-cut, is_end-no_frames}
-use Rattle.plat_events.specs.Privates.{Onward, NewTurn, TurnOver, Relock, Rewait, Place, Polling, Looking, Applying, Ticking, Switching, Loading, Expecting, Exchanging, Locking, InSession, Leaving, Lessening, Gone, LiveLooking, TimeLooking, Over, Private}
+use Rattle.plat_events.specs.Privates.{Onward, NewTurn, TurnOver, Relock, Rewait, Place, Polling, Looking, Applying, Ticking, Switching}
+use Rattle.plat_events.specs.Privates.{Loading, Expecting, Exchanging, Locking, InSession, Leaving, Lessening, Gone, LiveLooking}
+use Rattle.plat_events.specs.Privates.{TimeLooking, Over, Private}
 use Rattle.plat_events.specs.Events.{reach_now, entry_of}
 use Rattle.plat_events.specs.Shown.{IsReachedAlone, items_by, goes_to}
 use Rattle.plat_local_laws.specs.Faults.{WantsAccess}

@@ -1,5 +1,6 @@
 -- the passes of the daemon: each number that is followed keeps the time of the next pass and the bound on its journal
-use Rattle.std.proofs.Common.{◌≡◌, ℕ, ◌+◌, ◌-◌, ◌*◌, ◌/◌, ◌<◌, ◌≤◌, Bool, true, false, [], ◌∷◌, length, Some, None, refl, arith, ap, sym, ◌∙◌, length-append}
+use Rattle.std.proofs.Common.{◌≡◌, ℕ, ◌+◌, ◌-◌, ◌*◌, ◌/◌, ◌<◌, ◌≤◌, Bool, true, false, [], ◌∷◌, length, Some, None, refl, arith, ap, sym}
+use Rattle.std.proofs.Common.{◌∙◌, length-append}
 use Rattle.std.specs.Prelude.{◌==◌, nat_lt, if◌then◌else◌, Option}
 use Rattle.std.proofs.lemmas.Bool.{cond_both, ltb-false, leb-true, eqb-false, true≢false}
 use Rattle.std.proofs.Math.Nat.{mul-div_cancel, div-mul-le_self}
@@ -17,9 +18,13 @@ use Rattle.plat_laws.specs.Guests.{IsWithinLimits}
 use Rattle.plat_laws.proofs.Limits.{platinum-limits}
 use Rattle.plat_events.specs.Words.{is_locked}
 use Rattle.plat_events.specs.Shootdowns.{Shoot, Makes, Polls, Done, own_post, shot_after}
-use Rattle.plat_events.specs.Sessions.{Fault, Phase, Stamping, Seeking, Taking, Returning, Shooting, Filling, Reading, Copying, Giving, Storing, Granting, Unlocking, Session, decision_of, change_made, with_phase, session_next}
-use Rattle.plat_events.specs.Privates.{Relock, Place, Polling, Looking, Applying, Ticking, Switching, Loading, Expecting, Exchanging, Locking, InSession, Leaving, Lessening, Gone, LiveLooking, TimeLooking, Over, Private, actor_count, first_place, first_private, period}
-use Rattle.plat_events.specs.Events.{at, lock_place_after, thaw_of, page_done, drop_own, shoot_place, session_moved, moved_at, session_item, item_at, named_next, is_followed, with_item}
+use Rattle.plat_events.specs.Sessions.{Fault, Phase, Stamping, Seeking, Taking, Returning, Shooting, Filling, Reading, Copying, Giving}
+use Rattle.plat_events.specs.Sessions.{Storing, Granting, Unlocking, Session, decision_of, change_made, with_phase, session_next}
+use Rattle.plat_events.specs.Privates.{Relock, Place, Polling, Looking, Applying, Ticking, Switching, Loading, Expecting, Exchanging}
+use Rattle.plat_events.specs.Privates.{Locking, InSession, Leaving, Lessening, Gone, LiveLooking, TimeLooking, Over, Private, actor_count}
+use Rattle.plat_events.specs.Privates.{first_place, first_private, period}
+use Rattle.plat_events.specs.Events.{at, lock_place_after, thaw_of, page_done, drop_own, shoot_place, session_moved, moved_at, session_item}
+use Rattle.plat_events.specs.Events.{item_at, named_next, is_followed, with_item}
 use Rattle.plat_local_laws.specs.Phases.{SessionOk}
 use Rattle.plat_local_laws.specs.Standing.{PlaceOk}
 use Rattle.plat_local_laws.specs.Numbers.{is_faulting, pages_passed, PassesOk}
@@ -60,7 +65,8 @@ div-most : (x y t : ℕ) → 0 < t → x ≤ y → x / t ≤ y / t
 div-most x y t h l = le-div (x / t) y t h (omega (arith, div-mul-le_self x t))
 
 -- the time of the pass after this one
-next-due : (m : Machine) (p : Private) → 0 < period m.policy → (p.now / period m.policy + 1) * period m.policy / period m.policy ≡ p.now / period m.policy + 1
+next-due : (m : Machine) (p : Private) → 0 < period m.policy → (p.now / period m.policy + 1) * period m.policy / period m.policy
+    ≡ p.now / period m.policy + 1
 next-due m p h = mul-div_cancel (p.now / period m.policy + 1) h
 
 page_done-passes :
@@ -116,9 +122,12 @@ session-passes :
     → is_followed m (Some (session_next m answer a p.now (session_at f d phase) phase)) n ≡ true
     → PassesOk m
     (with_made p (session_moved m answer a p n (session_at f d phase) phase) (session_item m answer a p.now (session_at f d phase) phase))
-session-passes m answer a p n f d Stamping t q h e s k = passes-still m p _ h refl refl refl (λ _. ap is_faulting e) (sym (ap pages_passed e))
-session-passes m answer a p n f d (Seeking st i) t q h e s k = passes-still m p _ h refl refl refl (λ _. ap is_faulting e) (sym (ap pages_passed e))
-session-passes m answer a p n f d (Taking st i seen) t q h e s k = passes-still m p _ h refl refl refl (λ _. ap is_faulting e) (sym (ap pages_passed e))
+session-passes m answer a p n f d Stamping t q h e s k =
+    passes-still m p _ h refl refl refl (λ _. ap is_faulting e) (sym (ap pages_passed e))
+session-passes m answer a p n f d (Seeking st i) t q h e s k =
+    passes-still m p _ h refl refl refl (λ _. ap is_faulting e) (sym (ap pages_passed e))
+session-passes m answer a p n f d (Taking st i seen) t q h e s k =
+    passes-still m p _ h refl refl refl (λ _. ap is_faulting e) (sym (ap pages_passed e))
 session-passes m answer a p n f d Returning t q h e s k =
     let j : length p.journal ≤ (p.due / period m.policy - 1) * m.pages + f.page = rw (ap pages_passed e) at h.thaws in
     cond_both (a == m.nodes) (page_done m p f.page) _ (λ x. PassesOk m (with_made p x None))
@@ -132,12 +141,18 @@ session-passes m answer a p n f d (Shooting c shot) t q h e s k =
     let shoots = shot_after-ok m a f.page c.posts n shot s.phase.course.masks s.phase.stands (shot-told m a f.page rem c.posts shot n k) in
     passes-still m p _ h same.0 same.1 refl (λ _. ap is_faulting e)
     (shoot-page m a x _ (shot_after m a f.page c.posts n shot) q shoots ∙ sym (ap pages_passed e))
-session-passes m answer a p n f d (Filling c w) t q h e s k = passes-still m p _ h refl refl refl (λ _. ap is_faulting e) (sym (ap pages_passed e))
-session-passes m answer a p n f d (Reading c w) t q h e s k = passes-still m p _ h refl refl refl (λ _. ap is_faulting e) (sym (ap pages_passed e))
-session-passes m answer a p n f d (Copying c w seen) t q h e s k = passes-still m p _ h refl refl refl (λ _. ap is_faulting e) (sym (ap pages_passed e))
-session-passes m answer a p n f d (Giving c i) t q h e s k = passes-still m p _ h refl refl refl (λ _. ap is_faulting e) (sym (ap pages_passed e))
-session-passes m answer a p n f d (Storing c) t q h e s k = passes-still m p _ h refl refl refl (λ _. ap is_faulting e) (sym (ap pages_passed e))
-session-passes m answer a p n f d (Granting c) t q h e s k = passes-still m p _ h refl refl refl (λ _. ap is_faulting e) (sym (ap pages_passed e))
+session-passes m answer a p n f d (Filling c w) t q h e s k =
+    passes-still m p _ h refl refl refl (λ _. ap is_faulting e) (sym (ap pages_passed e))
+session-passes m answer a p n f d (Reading c w) t q h e s k =
+    passes-still m p _ h refl refl refl (λ _. ap is_faulting e) (sym (ap pages_passed e))
+session-passes m answer a p n f d (Copying c w seen) t q h e s k =
+    passes-still m p _ h refl refl refl (λ _. ap is_faulting e) (sym (ap pages_passed e))
+session-passes m answer a p n f d (Giving c i) t q h e s k =
+    passes-still m p _ h refl refl refl (λ _. ap is_faulting e) (sym (ap pages_passed e))
+session-passes m answer a p n f d (Storing c) t q h e s k =
+    passes-still m p _ h refl refl refl (λ _. ap is_faulting e) (sym (ap pages_passed e))
+session-passes m answer a p n f d (Granting c) t q h e s k =
+    passes-still m p _ h refl refl refl (λ _. ap is_faulting e) (sym (ap pages_passed e))
 session-passes m answer a p n f d (Unlocking c) t q h e s k =
     let x = session_at f d (Unlocking c) in
     let i = item.Change (change_made m answer a p.now x c) in
@@ -157,7 +172,8 @@ lock-page m a fault n e =
     (λ r. absurd (eqb-false a m.nodes r e)))
     (λ _. refl)
 
-live-still : (n : ℕ) → (is_faulting (if n == 0 then Over else TimeLooking) ≡ false) × (pages_passed (if n == 0 then Over else TimeLooking) ≡ 0)
+live-still : (n : ℕ) → (is_faulting (if n == 0 then Over else TimeLooking) ≡ false)
+    × (pages_passed (if n == 0 then Over else TimeLooking) ≡ 0)
 live-still n =
     cond_both (n == 0) Over TimeLooking (λ x. (is_faulting x ≡ false) × (pages_passed x ≡ 0)) (λ _. (refl, refl)) (λ _. (refl, refl))
 
@@ -221,7 +237,8 @@ pub passes-first : (m : Machine) (a : ℕ) → 0 < period m.policy → PassesOk 
 passes-first m a t =
     let one = one_period (period m.policy) t in
     let still : (is_faulting (first_place m a) ≡ false) × (pages_passed (first_place m a) ≡ 0) =
-    cond_both (a == m.nodes) LiveLooking (Polling _) (λ x. (is_faulting x ≡ false) × (pages_passed x ≡ 0)) (λ _. (refl, refl)) (λ _. (refl, refl)) in
+    cond_both (a == m.nodes) LiveLooking (Polling _) (λ x. (is_faulting x ≡ false) × (pages_passed x ≡ 0)) (λ _. (refl, refl))
+    (λ _. (refl, refl)) in
     record {
       due_some = rw one (omega arith);
       due_is = rw one (omega arith);

@@ -1,5 +1,6 @@
 -- sessions: where each phase leads, while the translations stay
-use Rattle.std.proofs.Common.{◌≡◌, ℕ, ◌+◌, ◌*◌, ◌^◌, ◌<◌, ◌≤◌, Bool, true, false, List, [], length, Some, None, refl, arith, ap, sym, ◌∙◌, inl, inr}
+use Rattle.std.proofs.Common.{◌≡◌, ℕ, ◌+◌, ◌*◌, ◌^◌, ◌<◌, ◌≤◌, Bool, true, false, List, [], length, Some, None, refl, arith, ap, sym, ◌∙◌}
+use Rattle.std.proofs.Common.{inl, inr}
 use Rattle.std.specs.Prelude.{◌==◌, nat_lt, if◌then◌else◌, IsTrue, Option}
 use Rattle.std.specs.List.{list_all}
 use Rattle.std.proofs.lemmas.Bool.{cond_both, ltb-true, eqb-false, lt-ltb, and_from, true≢false}
@@ -19,12 +20,15 @@ use Rattle.plat_words.proofs.Pools.{lowest_free-below}
 use Rattle.plat_events.specs.Words.{bits_from, last_numbered, last_read, seq_read, lowest_free}
 use Rattle.plat_events.specs.Places.{most_changes, is_mask_word, is_stamp_word}
 use Rattle.plat_events.specs.Shootdowns.{Shoot, Makes, Polls, Done, shoot_from}
-use Rattle.plat_events.specs.Sessions.{Stamp, Course, Phase, Seeking, Taking, Returning, Filling, Reading, Giving, Storing, Session, decision_of, tried, module_tried, going, give_from, fill_from, copy_from, shot_over, with_posts, with_shoot, start_course, with_frame_got, seek_from, pool_found, frame_taken, with_phase}
+use Rattle.plat_events.specs.Sessions.{Stamp, Course, Phase, Seeking, Taking, Returning, Filling, Reading, Giving, Storing, Session}
+use Rattle.plat_events.specs.Sessions.{decision_of, tried, module_tried, going, give_from, fill_from, copy_from, shot_over, with_posts}
+use Rattle.plat_events.specs.Sessions.{with_shoot, start_course, with_frame_got, seek_from, pool_found, frame_taken, with_phase}
 use Rattle.plat_events.specs.Privates.{Private}
 use Rattle.plat_local_laws.specs.Faults.{LacksRight, FaultOk}
 use Rattle.plat_local_laws.specs.Phases.{StampOk, CourseOk, fills_words, copies_words, SeekingOk, TakingOk, QuietOk, FillingOk, PhaseOk}
 use Rattle.plat_local_laws.proofs.ShotLaws.{ShootOk, shoot_from-ok}
-use Rattle.plat_local_laws.proofs.CourseLaws.{IsActor, tried-thaw, module_tried-below, may_none, may_some, cause-fault, cause-thaw, going-gives}
+use Rattle.plat_local_laws.proofs.CourseLaws.{IsActor, tried-thaw, module_tried-below, may_none, may_some, cause-fault, cause-thaw}
+use Rattle.plat_local_laws.proofs.CourseLaws.{going-gives}
 
 -- ---- the same in another phase
 

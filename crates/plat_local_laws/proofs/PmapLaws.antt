@@ -1,5 +1,6 @@
 -- translations that are dropped, lowered or granted, and what holds at a place then
-use Rattle.std.proofs.Common.{◌≡◌, ℕ, zero, suc, Bool, true, false, List, [], ◌∷◌, length, Some, None, refl, ap, sym, subst, ◌∙◌, ◌⊎◌, inl, inr, get_or, set}
+use Rattle.std.proofs.Common.{◌≡◌, ℕ, zero, suc, Bool, true, false, List, [], ◌∷◌, length, Some, None, refl, ap, sym, subst, ◌∙◌, ◌⊎◌, inl}
+use Rattle.std.proofs.Common.{inr, get_or, set}
 use Rattle.std.specs.Prelude.{Option, slice_set}
 use Rattle.std.proofs.lemmas.List.{length-set}
 use Rattle.plat_base.specs.Verdicts.{Answer}
@@ -89,7 +90,7 @@ read_lacks kind.Load r h = h
 read_lacks kind.Store r h = refl
 read_lacks kind.Add r h = refl
 
-told-lacks : (k : Kind) (msg : Message) (t : Option Translation) → has_right k t ≡ false → has_right k (told msg t) ≡ false
+pub told-lacks : (k : Kind) (msg : Message) (t : Option Translation) → has_right k t ≡ false → has_right k (told msg t) ≡ false
 told-lacks k message.Invalidate t h = refl
 told-lacks k message.Restrict None h = refl
 told-lacks k message.Restrict (Some t) h = read_lacks k t.grant.right h

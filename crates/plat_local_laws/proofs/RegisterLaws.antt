@@ -1,5 +1,6 @@
 -- registers: each is a number of 32 bits, whatever the guest does
-use Rattle.std.proofs.Common.{◌≡◌, ℕ, zero, suc, ◌+◌, ◌-◌, ◌*◌, ◌/◌, ◌%◌, ◌^◌, ◌<◌, Bool, true, false, List, [], ◌∷◌, length, Some, None, refl, arith, set, get_or}
+use Rattle.std.proofs.Common.{◌≡◌, ℕ, zero, suc, ◌+◌, ◌-◌, ◌*◌, ◌/◌, ◌%◌, ◌^◌, ◌<◌, Bool, true, false, List, [], ◌∷◌, length, Some, None}
+use Rattle.std.proofs.Common.{refl, arith, set, get_or}
 use Rattle.std.specs.Prelude.{◌==◌, nat_lt, if◌then◌else◌, Option, bit_and, slice_get}
 use Rattle.std.specs.List.{list_all}
 use Rattle.std.proofs.lemmas.Bool.{cond_both, and_parts, and_from, lt-ltb, ltb-true}
@@ -9,7 +10,8 @@ use Rattle.std.proofs.lemmas.Nat.{and_le_l}
 use Rattle.plat_base.specs.Verdicts.{Answer}
 use Rattle.plat_base.specs.Machine.{Machine, Program, is_number, is_instr}
 use Rattle.plat_base.specs.Pages.{program_of}
-use Rattle.plat_base.specs.GuestRun.{GuestState, word_modulus, register, target, put, gone, passed, executed, executed_next, guest_after, want_of}
+use Rattle.plat_base.specs.GuestRun.{GuestState, word_modulus, register, target, put, gone, passed, executed, executed_next, guest_after}
+use Rattle.plat_base.specs.GuestRun.{want_of}
 use Rattle.plat_base.specs.declared.guests.Instr.{Instr}
 use Rattle.plat_base.specs.declared.guests.Instr.TheVariants as instr
 use Rattle.plat_base.specs.declared.guests.Want.{Want}
@@ -20,9 +22,12 @@ use Rattle.plat_base.specs.declared.endings.End.TheVariants as end
 use Rattle.plat_laws.specs.Guests.{IsWithinLimits}
 use Rattle.plat_events.specs.Words.{value_read}
 use Rattle.plat_events.specs.Shootdowns.{own_post}
-use Rattle.plat_events.specs.Sessions.{Fault, Phase, Stamping, Seeking, Taking, Returning, Shooting, Filling, Reading, Copying, Giving, Storing, Granting, Unlocking, decision_of}
-use Rattle.plat_events.specs.Privates.{Place, Polling, Looking, Applying, Ticking, Switching, Loading, Expecting, Exchanging, Locking, InSession, Leaving, Lessening, Gone, LiveLooking, TimeLooking, Over, Private, period}
-use Rattle.plat_events.specs.Events.{at, turn_does, thaw_of, page_done, drop_own, access_over, session_moved, moved_at, named_next, is_followed}
+use Rattle.plat_events.specs.Sessions.{Fault, Phase, Stamping, Seeking, Taking, Returning, Shooting, Filling, Reading, Copying, Giving}
+use Rattle.plat_events.specs.Sessions.{Storing, Granting, Unlocking, decision_of}
+use Rattle.plat_events.specs.Privates.{Place, Polling, Looking, Applying, Ticking, Switching, Loading, Expecting, Exchanging, Locking}
+use Rattle.plat_events.specs.Privates.{InSession, Leaving, Lessening, Gone, LiveLooking, TimeLooking, Over, Private, period}
+use Rattle.plat_events.specs.Events.{at, turn_does, thaw_of, page_done, drop_own, access_over, session_moved, moved_at, named_next}
+use Rattle.plat_events.specs.Events.{is_followed}
 use Rattle.plat_local_laws.specs.Standing.{PlaceOk}
 use Rattle.plat_local_laws.proofs.SessionLaws.{session_at}
 use Rattle.plat_local_laws.proofs.SpaceLaws.{program-instrs}
@@ -163,5 +168,6 @@ place-registers m answer a p n (Lessening x) h s w k = k
 place-registers m answer a p n (Gone x) h s w k = k
 place-registers m answer a p n LiveLooking h s w k = k
 place-registers m answer a p n TimeLooking h s w k =
-    cond_both (nat_lt n p.due) (at p LiveLooking) (record p { now = n; place = Locking (thaw_of 0) }) (λ x. HasNumbers x.guest) (λ _. k) (λ _. k)
+    cond_both (nat_lt n p.due) (at p LiveLooking) (record p { now = n; place = Locking (thaw_of 0) }) (λ x. HasNumbers x.guest) (λ _. k)
+    (λ _. k)
 place-registers m answer a p n Over h s w k = k

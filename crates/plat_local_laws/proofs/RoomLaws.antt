@@ -1,5 +1,6 @@
 -- a journal has no more items than its room
-use Rattle.std.proofs.Common.{◌≡◌, ℕ, ◌-◌, ◌*◌, ◌/◌, ◌<◌, ◌≤◌, true, false, length, refl, arith, ap, sym, subst, ◌∙◌, inl, inr, get_or, replicate}
+use Rattle.std.proofs.Common.{◌≡◌, ℕ, ◌-◌, ◌*◌, ◌/◌, ◌<◌, ◌≤◌, true, false, length, refl, arith, ap, sym, subst, ◌∙◌, inl, inr, get_or}
+use Rattle.std.proofs.Common.{replicate}
 use Rattle.std.specs.Prelude.{slice_index}
 use Rattle.std.specs.Option.{option_to_list}
 use Rattle.std.proofs.lemmas.List.{length-replicate, get_or_append_left, get_or-append_right, get_or-replicate}
@@ -10,7 +11,8 @@ use Rattle.plat_base.specs.Rooms.{processor_room, daemon_room, journal_rooms}
 use Rattle.plat_base.specs.declared.policies.PolicyKind.{PolicyKind}
 use Rattle.plat_base.specs.declared.policies.PolicyKind.TheVariants as policy
 use Rattle.plat_laws.specs.Guests.{IsWithinLimits}
-use Rattle.plat_events.specs.Privates.{Place, Polling, Looking, Applying, Ticking, Switching, Loading, Expecting, Exchanging, Locking, InSession, Leaving, Lessening, Gone, LiveLooking, TimeLooking, Over, Private, actor_count, period}
+use Rattle.plat_events.specs.Privates.{Place, Polling, Looking, Applying, Ticking, Switching, Loading, Expecting, Exchanging, Locking}
+use Rattle.plat_events.specs.Privates.{InSession, Leaving, Lessening, Gone, LiveLooking, TimeLooking, Over, Private, actor_count, period}
 use Rattle.plat_events.specs.Shown.{IsReachedAlone}
 use Rattle.plat_local_laws.specs.Standing.{PlaceOk}
 use Rattle.plat_local_laws.specs.Numbers.{is_faulting, pages_passed}
@@ -37,7 +39,8 @@ daemon-room_of nodes budget pages policy.Place h = absurd cc
 daemon-room_of nodes budget pages policy.Replicate h = absurd cc
 daemon-room_of nodes budget pages (policy.Platinum t1 t2) h = refl
 
-daemon-room : (m : Machine) → has_daemon m.policy ≡ true → slice_index (journal_rooms m) m.nodes ≡ m.nodes * m.budget / period m.policy * m.pages
+daemon-room : (m : Machine) → has_daemon m.policy ≡ true → slice_index (journal_rooms m) m.nodes ≡ m.nodes * m.budget / period m.policy
+    * m.pages
 daemon-room m h =
     let rest = option_to_list (daemon_room m.nodes m.budget m.pages m.policy) in
     let none : m.nodes - m.nodes ≡ 0 = omega arith in

@@ -14,7 +14,9 @@ use Rattle.plat_base.specs.Alike.{same_cause, same_action, same_removed, same_di
 use Rattle.plat_base.specs.Copies.{same_frame}
 use Rattle.plat_base.specs.Turns.{grant_of}
 use Rattle.plat_base.specs.Accesses.{cause_of, right_of}
-use Rattle.plat_base.specs.Rules.{next_operation, is_access_next, is_switch_next, is_ordered_access, is_ordered_switch, got_named, is_decided, is_fault_of, is_fault_decision, is_fault_change, has_daemon, is_thaw_change, is_chained, may_apply, is_answered}
+use Rattle.plat_base.specs.Rules.{next_operation, is_access_next, is_switch_next, is_ordered_access, is_ordered_switch, got_named}
+use Rattle.plat_base.specs.Rules.{is_decided, is_fault_of, is_fault_decision, is_fault_change, has_daemon, is_thaw_change, is_chained}
+use Rattle.plat_base.specs.Rules.{may_apply, is_answered}
 use Rattle.plat_base.proofs.CopiesLemmas.{same_frame-itself}
 use Rattle.plat_base.specs.declared.frames.Dir.{Dir}
 use Rattle.plat_base.specs.declared.frames.Frame.{Frame}
@@ -30,7 +32,8 @@ use Rattle.plat_base.specs.declared.items.Right.{Right}
 use Rattle.plat_base.specs.declared.items.Right.TheVariants as right
 use Rattle.plat_base.specs.declared.items.Translation.{Translation}
 use Rattle.plat_base.specs.declared.guests.Want.TheVariants as want
-use Rattle.plat_laws.proofs.TableLaws.{same_cause-itself, same_action-itself, same_removed-itself, same_right-itself, same_dir-itself, all_three}
+use Rattle.plat_laws.proofs.TableLaws.{same_cause-itself, same_action-itself, same_removed-itself, same_right-itself, same_dir-itself}
+use Rattle.plat_laws.proofs.TableLaws.{all_three}
 use Rattle.plat_events.specs.Sessions.{Fault, Course, Unlocking, Session, decision_of, entry_faulted, change_made}
 use Rattle.plat_events.specs.Privates.{Onward, Private, InSession, actor_count}
 use Rattle.plat_events.specs.Scans.{entry_scanned}
@@ -82,7 +85,8 @@ pub active_in :
     (m : Machine) (answer : Answer) (a : ℕ) (p : Private) (items : List Item) → PrivateOk m answer a p → p.journal ≡ items_by a items
     → active m items a ≡ p.guest.space
 active_in m answer a p items h j =
-    sym (active-items_by m a items) ∙ ap (λ x. active m x a) (sym j) ∙ sym h.guest.run.space ∙ ap (λ (s : GuestState). s.space) (sym h.guest.guest)
+    sym (active-items_by m a items) ∙ ap (λ x. active m x a) (sym j) ∙ sym h.guest.run.space
+    ∙ ap (λ (s : GuestState). s.space) (sym h.guest.guest)
 
 pub answered :
     (m : Machine) (answer : Answer) (a : ℕ) (p : Private) (items : List Item) (i : ℕ) (msg : Message) (moment : Moment) (onward : Onward)
@@ -107,7 +111,8 @@ decides_so m answer x g last got =
     in may_decide m answer x.before last x.time x.actor x.cause got && is_decided d x && same_frame d.frame g.frame
     && same_right g.right (right_of x.cause)
 
-is_decided-itself : (m : Machine) (answer : Answer) (a now : ℕ) (s : Session) (c : Course) → is_decided (decision_of m answer a now s c) (change_made m answer a now s c) ≡ true
+is_decided-itself : (m : Machine) (answer : Answer) (a now : ℕ) (s : Session) (c : Course) →
+    is_decided (decision_of m answer a now s c) (change_made m answer a now s c) ≡ true
 is_decided-itself m answer a now s c =
     let d = decision_of m answer a now s c in
     all_three (same_action d.action d.action) (same_removed d.removed d.removed) (same_dir d.after d.after) (same_action-itself d.action)
@@ -116,7 +121,8 @@ is_decided-itself m answer a now s c =
 fault_decision :
     (m : Machine) (answer : Answer) (a : ℕ) (p : Private) (s : Session) (c : Course) (items : List Item) (e : ℕ) → a < m.nodes
     → FaultOk m a p s.fault → CourseOk m answer a p s c → c.stamp.last ≡ last_of items s.fault.page
-    → is_fault_decision m answer items (change_made m answer a p.now s c) (grant_of e s.fault.cause (decision_of m answer a p.now s c)) ≡ true
+    → is_fault_decision m answer items (change_made m answer a p.now s c) (grant_of e s.fault.cause (decision_of m answer a p.now s c))
+    ≡ true
 fault_decision m answer a p s c items e l f k last =
     let d = decision_of m answer a p.now s c in
     let x = change_made m answer a p.now s c in
@@ -131,7 +137,7 @@ fault_decision m answer a p s c items e l f k last =
     subst (λ t. decides_so m answer x g t (got_named d.action g) ≡ true) last
     (subst (λ t. decides_so m answer x g c.stamp.last t ≡ true) (sym got) base)
 
-kind_for-right : (k : Kind) (t : Option Translation) → has_right (kind_for (cause_of k)) t ≡ has_right k t
+pub kind_for-right : (k : Kind) (t : Option Translation) → has_right (kind_for (cause_of k)) t ≡ has_right k t
 kind_for-right kind.Load t = refl
 kind_for-right kind.Store t = refl
 kind_for-right kind.Add None = refl
@@ -156,11 +162,13 @@ fault_next m answer a p s c items h l j e f lacks =
     sym (kind_for-right r.kind (held m items a i)) ∙ ap (λ x. has_right (kind_for x) (held m items a i)) (sym f.cause) ∙ lacks in
     rw (next_access m answer a p items h l j e f.wants)
     (and_from
-    (nat_lt i (length m.entries) && i == entry_reached m r.space r.addr && r.page == s.fault.page && same_cause (cause_of r.kind) s.fault.cause)
+    (nat_lt i (length m.entries) && i == entry_reached m r.space r.addr && r.page == s.fault.page
+    && same_cause (cause_of r.kind) s.fault.cause)
     (not (has_right r.kind (held m items a i)))
     (and_from (nat_lt i (length m.entries) && i == entry_reached m r.space r.addr && r.page == s.fault.page)
     (same_cause (cause_of r.kind) s.fault.cause)
-    (all_three (nat_lt i (length m.entries)) (i == entry_reached m r.space r.addr) (r.page == s.fault.page) (lt-ltb i (length m.entries) below)
+    (all_three (nat_lt i (length m.entries)) (i == entry_reached m r.space r.addr) (r.page == s.fault.page)
+    (lt-ltb i (length m.entries) below)
     (eq-eqb i (entry_reached m r.space r.addr) refl) (eq-eqb r.page s.fault.page (sym f.page)))
     (subst (λ x. same_cause (cause_of r.kind) x ≡ true) (sym f.cause) (same_cause-itself (cause_of r.kind))))
     (not_from_false (has_right r.kind (held m items a i)) none))
@@ -217,7 +225,8 @@ thaw_chained m answer a p s c items l q f k read =
     let none : is_none x.granted ≡ true = ap (λ y. is_none (option_map (λ z. grant_of z s.fault.cause d) y)) entry in
     let daemon = daemon_has m.nodes a (has_daemon m.policy) l q in
     and_from
-    (has_daemon m.policy && same_cause s.fault.cause cause.Thaw && is_none x.granted && may_decide m answer s.dir last p.now a cause.Thaw None)
+    (has_daemon m.policy && same_cause s.fault.cause cause.Thaw && is_none x.granted && may_decide m answer s.dir last p.now a cause.Thaw
+    None)
     (is_decided (decide m answer s.dir last p.now a cause.Thaw None) x)
     (and_from (has_daemon m.policy && same_cause s.fault.cause cause.Thaw && is_none x.granted)
     (may_decide m answer s.dir last p.now a cause.Thaw None)
@@ -253,7 +262,8 @@ chained_change m answer a p f d c items l h j e read =
         ≡ true
     by session (inl q) =
         cond-true (nat_lt a m.nodes) _ _ (lt-ltb a m.nodes q)
-        ∙ fault_chained m answer a p (session_at f d (Unlocking c)) c items h q j (ap is_in_turn e) session.fault session.phase.quiet.course read
+        ∙ fault_chained m answer a p (session_at f d (Unlocking c)) c items h q j (ap is_in_turn e) session.fault session.phase.quiet.course
+        read
     by session (inr q) =
         cond-false (nat_lt a m.nodes) _ _ (le-ltb a m.nodes (omega arith))
         ∙ and_from (a == m.nodes) (is_thaw_change m answer items (change_made m answer a p.now (session_at f d (Unlocking c)) c))

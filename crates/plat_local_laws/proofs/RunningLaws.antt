@@ -19,8 +19,11 @@ use Rattle.plat_base.specs.declared.items.Moment.TheVariants as moment
 use Rattle.plat_base.specs.declared.items.Removed.TheVariants as removed
 use Rattle.plat_base.specs.declared.policies.Verdict.TheVariants as verdict
 use Rattle.plat_laws.proofs.TableLaws.{copy_on-empty}
-use Rattle.plat_events.specs.Sessions.{Fault, Course, Phase, Stamping, Seeking, Taking, Returning, Shooting, Filling, Reading, Copying, Giving, Storing, Granting, Unlocking, Session, decision_of}
-use Rattle.plat_events.specs.Privates.{Onward, NewTurn, TurnOver, Relock, Rewait, Place, Polling, Looking, Applying, Ticking, Switching, Loading, Expecting, Exchanging, Locking, InSession, Leaving, Lessening, Gone, LiveLooking, TimeLooking, Over, Private}
+use Rattle.plat_events.specs.Sessions.{Fault, Course, Phase, Stamping, Seeking, Taking, Returning, Shooting, Filling, Reading, Copying}
+use Rattle.plat_events.specs.Sessions.{Giving, Storing, Granting, Unlocking, Session, decision_of}
+use Rattle.plat_events.specs.Privates.{Onward, NewTurn, TurnOver, Relock, Rewait, Place, Polling, Looking, Applying, Ticking, Switching}
+use Rattle.plat_events.specs.Privates.{Loading, Expecting, Exchanging, Locking, InSession, Leaving, Lessening, Gone, LiveLooking}
+use Rattle.plat_events.specs.Privates.{TimeLooking, Over, Private}
 use Rattle.plat_events.specs.Standings.{course_of, is_quiet, posts_of, removes_by}
 use Rattle.plat_events.specs.Kept.{session_behind, session_of, scan_left, activation_at}
 use Rattle.plat_local_laws.specs.Faults.{FaultOk}
@@ -31,7 +34,8 @@ use Rattle.plat_local_laws.proofs.CourseLaws.{IsActor, cause-fault, fault_decide
 
 -- ---- the session of a place
 
-session-same : (m : Machine) (answer : Answer) (a : ℕ) (p : Private) (x s : Session) → SessionOk m answer a p x → Some x ≡ Some s → SessionOk m answer a p s
+session-same : (m : Machine) (answer : Answer) (a : ℕ) (p : Private) (x s : Session) → SessionOk m answer a p x → Some x ≡ Some s →
+    SessionOk m answer a p s
 session-same m answer a p x s h k = let same : x ≡ s = cc in subst (SessionOk m answer a p) same h
 
 behind-session :
@@ -64,7 +68,8 @@ place-session m answer a p TimeLooking s h k = absurd cc
 place-session m answer a p Over s h k = absurd cc
 
 -- no activation scan is under way in a session
-scan-session : (moment : Moment) (onward : Onward) (i : ℕ) (s : Session) → leads_to moment onward ≡ true → session_behind onward ≡ Some s → scan_left moment i ≡ None
+scan-session : (moment : Moment) (onward : Onward) (i : ℕ) (s : Session) → leads_to moment onward ≡ true → session_behind onward ≡ Some s →
+    scan_left moment i ≡ None
 scan-session moment.Interrupt onward i s h k = refl
 scan-session moment.Activation NewTurn i s h k = absurd cc
 scan-session moment.Activation TurnOver i s h k = absurd cc
@@ -93,7 +98,8 @@ session-no_activation m answer a p Over s h k = refl
 
 -- ---- the row, by phase
 
-course-same : (m : Machine) (answer : Answer) (a : ℕ) (p : Private) (s : Session) (x c : Course) → CourseOk m answer a p s x → Some x ≡ Some c → CourseOk m answer a p s c
+course-same : (m : Machine) (answer : Answer) (a : ℕ) (p : Private) (s : Session) (x c : Course) → CourseOk m answer a p s x →
+    Some x ≡ Some c → CourseOk m answer a p s c
 course-same m answer a p s x c h k = let same : x ≡ c = cc in subst (CourseOk m answer a p s) same h
 
 pub phase-course :

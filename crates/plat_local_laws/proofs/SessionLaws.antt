@@ -15,8 +15,11 @@ use Rattle.plat_base.specs.declared.endings.End.TheVariants as end
 use Rattle.plat_laws.specs.Guests.{IsWithinLimits}
 use Rattle.plat_laws.proofs.GuestLaws.{IsReach-wanted}
 use Rattle.plat_events.specs.Words.{last_read, seq_read}
-use Rattle.plat_events.specs.Shootdowns.{Shot, Posting, PostingOn, Asking, Interrupting, Watching, AskingAgain, Shoot, Makes, Polls, Done, own_post, shot_after, shot_next}
-use Rattle.plat_events.specs.Sessions.{Fault, Course, Phase, Stamping, Seeking, Taking, Returning, Shooting, Filling, Reading, Copying, Giving, Storing, Granting, Unlocking, Session, decision_of, entry_faulted, translation_made, session_next, with_phase, with_posts, with_shoot}
+use Rattle.plat_events.specs.Shootdowns.{Shot, Posting, PostingOn, Asking, Interrupting, Watching, AskingAgain, Shoot, Makes, Polls, Done}
+use Rattle.plat_events.specs.Shootdowns.{own_post, shot_after, shot_next}
+use Rattle.plat_events.specs.Sessions.{Fault, Course, Phase, Stamping, Seeking, Taking, Returning, Shooting, Filling, Reading, Copying}
+use Rattle.plat_events.specs.Sessions.{Giving, Storing, Granting, Unlocking, Session, decision_of, entry_faulted, translation_made}
+use Rattle.plat_events.specs.Sessions.{session_next, with_phase, with_posts, with_shoot}
 use Rattle.plat_events.specs.Privates.{Locking, InSession, Leaving, LiveLooking, Private, period, translation_at}
 use Rattle.plat_events.specs.Events.{at, reach_now, look_up_place, thaw_of, page_done, drop_own, shoot_place, session_moved, is_followed}
 use Rattle.plat_local_laws.specs.Faults.{LacksRight, IsFaultNow}
@@ -24,8 +27,10 @@ use Rattle.plat_local_laws.specs.Phases.{CourseOk, QuietOk, StoringOk, GrantingO
 use Rattle.plat_local_laws.specs.Standing.{LockingOk, TranslationOk, PlaceOk, StandingOk}
 use Rattle.plat_local_laws.proofs.ShotLaws.{ShootOk, IsToldBy, shot_after-ok}
 use Rattle.plat_local_laws.proofs.CourseLaws.{IsActor, fault_decides}
-use Rattle.plat_local_laws.proofs.PhaseLaws.{QuietOk-phase, RunsOk, give_from-ok, fill_from-ok, copy_from-ok, FillingOk-from, with_shoot-ok, seek_from-ok, not_daemon, pool_found-ok, take-ok, stamp_read-ok}
-use Rattle.plat_local_laws.proofs.PmapLaws.{with_translation, TranslationsOk, TranslationsOk-with, kept_of-ok, kept_of-LacksRight, FaultOk-with, CourseOk-with}
+use Rattle.plat_local_laws.proofs.PhaseLaws.{QuietOk-phase, RunsOk, give_from-ok, fill_from-ok, copy_from-ok, FillingOk-from, with_shoot-ok}
+use Rattle.plat_local_laws.proofs.PhaseLaws.{seek_from-ok, not_daemon, pool_found-ok, take-ok, stamp_read-ok}
+use Rattle.plat_local_laws.proofs.PmapLaws.{with_translation, TranslationsOk, TranslationsOk-with, kept_of-ok, kept_of-LacksRight}
+use Rattle.plat_local_laws.proofs.PmapLaws.{FaultOk-with, CourseOk-with}
 use Rattle.plat_local_laws.proofs.TurnLaws.{standing-at, look_up-ok}
 
 -- what holds of an actor wherever it stands
@@ -35,7 +40,8 @@ pub record HereOk (m : Machine) (a : ℕ) (p : Private) : Type 0 where
   pub translations : TranslationsOk m p
   pub turns_most : p.turns ≤ m.budget
 
-runs : (m : Machine) (answer : Answer) (a : ℕ) (p : Private) (s : Session) → HereOk m a p → SessionOk m answer a p s → LacksRight m a p → RunsOk m a p s
+runs : (m : Machine) (answer : Answer) (a : ℕ) (p : Private) (s : Session) → HereOk m a p → SessionOk m answer a p s → LacksRight m a p →
+    RunsOk m a p s
 runs m answer a p s here h l = record { limits = here.limits; actor = here.actor; fault = h.fault; dir = h.dir; lacks = l }
 
 -- the session in its next phase
@@ -60,7 +66,8 @@ pub thaw-locked :
 thaw-locked m answer a p page e l = thaw-locks m a p page e l
 
 page_done-ok :
-    (m : Machine) (answer : Answer) (a : ℕ) (p : Private) (page : ℕ) → HereOk m a p → a ≡ m.nodes → StandingOk m answer a (page_done m p page)
+    (m : Machine) (answer : Answer) (a : ℕ) (p : Private) (page : ℕ) → HereOk m a p → a ≡ m.nodes →
+    StandingOk m answer a (page_done m p page)
 page_done-ok m answer a p page here e =
     cond_both (nat_lt (page + 1) m.pages) (at p (Locking (thaw_of (page + 1))))
     (record p { due = (p.now / period m.policy + 1) * period m.policy; place = LiveLooking }) (StandingOk m answer a)
@@ -132,7 +139,8 @@ shot-told m a page rem posts (AskingAgain k) n e = tt
 
 -- ---- the grant
 
-pub entry_now-below : (m : Machine) (a : ℕ) (p : Private) (fault : Fault) → IsFaultNow m a p fault → entry_faulted m fault < length m.entries
+pub entry_now-below : (m : Machine) (a : ℕ) (p : Private) (fault : Fault) → IsFaultNow m a p fault →
+    entry_faulted m fault < length m.entries
 entry_now-below m a p fault f =
     let r = reach_now m a p in
     rw (ap (λ e. unwrap_or e (length m.entries)) f.entry)
@@ -163,7 +171,8 @@ grant-step m answer a p s c here h g =
     let t = translation_made m answer a p.now s c e in
     let q = with_translation p e (Some t) in
     let facts = fault_decides m answer a p s c h.fault g.stores.quiet.course g.processor in
-    let there : TranslationsOk m q = TranslationsOk-with m p e (Some t) here.translations (λ u k. made-ok m answer a p s c e u facts.frame k) in
+    let there : TranslationsOk m q =
+    TranslationsOk-with m p e (Some t) here.translations (λ u k. made-ok m answer a p s c e u facts.frame k) in
     let below = entry_now-below m a p s.fault (h.fault.access g.processor) in
     let unlocks : UnlockingOk m answer a q (with_phase s (Unlocking c)) c = record {
       quiet = QuietOk-phase m answer a q s (Unlocking c) c (QuietOk-with m answer a p e (Some t) s c g.stores.quiet);

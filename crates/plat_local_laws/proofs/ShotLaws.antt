@@ -8,7 +8,8 @@ use Rattle.plat_base.specs.Machine.{Machine}
 use Rattle.plat_base.specs.Pages.{entries_of_page}
 use Rattle.plat_events.specs.Words.{has_references, has_message}
 use Rattle.plat_events.specs.Places.{is_mask_word}
-use Rattle.plat_events.specs.Shootdowns.{Shot, Posting, PostingOn, Asking, Interrupting, Watching, AskingAgain, Shoot, Makes, Polls, Done, targets, target_at, ask_from, shoot_from, mask_found, is_active_in, shot_after}
+use Rattle.plat_events.specs.Shootdowns.{Shot, Posting, PostingOn, Asking, Interrupting, Watching, AskingAgain, Shoot, Makes, Polls, Done}
+use Rattle.plat_events.specs.Shootdowns.{targets, target_at, ask_from, shoot_from, mask_found, is_active_in, shot_after}
 use Rattle.plat_local_laws.specs.Phases.{IsPostLeft, TargetOk, ShotOk}
 
 -- a shootdown as it stands: its masks are those of the machine, and only a processor polls

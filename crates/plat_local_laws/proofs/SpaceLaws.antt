@@ -15,7 +15,8 @@ use Rattle.plat_base.specs.declared.items.Kind.{Kind}
 use Rattle.plat_laws.specs.Guests.{IsWithinLimits}
 use Rattle.plat_laws.proofs.Limits.{list_all-get_or, guests-count}
 
-access_no_switch : (b : Bool) (k : Kind) (sp ad o space : ℕ) → (if b then want.Access k sp ad o else want.Trap) ≡ want.Switch space → nat_lt space SPACES ≡ true
+access_no_switch : (b : Bool) (k : Kind) (sp ad o space : ℕ) → (if b then want.Access k sp ad o else want.Trap) ≡ want.Switch space →
+    nat_lt space SPACES ≡ true
 access_no_switch true k sp ad o space h = absurd cc
 access_no_switch false k sp ad o space h = absurd cc
 

@@ -1,7 +1,8 @@
 -- where an actor stands: each number that is followed keeps what holds there
-use Rattle.std.proofs.Common.{◌≡◌, ℕ, zero, suc, ◌+◌, ◌<◌, ◌≤◌, Bool, true, false, List, Some, None, refl, arith, ap, sym, subst, ◌∙◌, ◌⊎◌, inl, inr, replicate, get_or}
+use Rattle.std.proofs.Common.{◌≡◌, ℕ, zero, suc, ◌+◌, ◌<◌, ◌≤◌, Bool, true, false, List, Some, None, refl, arith, ap, sym, subst, ◌∙◌, ◌⊎◌}
+use Rattle.std.proofs.Common.{inl, inr, replicate, get_or}
 use Rattle.std.specs.Prelude.{◌==◌, nat_lt, ◌&&◌, not, if◌then◌else◌}
-use Rattle.std.proofs.lemmas.Bool.{cond_both, eqb-true, eqb-false, and_parts, and_from, eq-eqb, cases_lt, true≢false}
+use Rattle.std.proofs.lemmas.Bool.{cond_both, eqb-true, eqb-false, and_parts, and_from, eq-eqb, cases_lt, true≢false, not-true}
 use Rattle.std.proofs.lemmas.Bool.Decides.{nat_tests}
 use Rattle.std.proofs.lemmas.List.{length-replicate}
 use Rattle.plat_base.specs.Verdicts.{Answer}
@@ -24,16 +25,20 @@ use Rattle.plat_laws.proofs.Limits.{list_all-get_or, budget-some}
 use Rattle.plat_events.specs.Words.{dir_read, is_locked}
 use Rattle.plat_events.specs.Places.{entry_count, is_dir_word}
 use Rattle.plat_events.specs.Sessions.{Fault, Phase, Stamping, Returning}
-use Rattle.plat_events.specs.Privates.{Onward, NewTurn, TurnOver, Relock, Place, Polling, Looking, Applying, Ticking, Switching, Loading, Expecting, Exchanging, Locking, InSession, Leaving, Lessening, Gone, LiveLooking, TimeLooking, Over, Private, actor_count, first_place, first_private, translation_at}
+use Rattle.plat_events.specs.Privates.{Onward, NewTurn, TurnOver, Relock, Place, Polling, Looking, Applying, Ticking, Switching, Loading}
+use Rattle.plat_events.specs.Privates.{Expecting, Exchanging, Locking, InSession, Leaving, Lessening, Gone, LiveLooking, TimeLooking, Over}
+use Rattle.plat_events.specs.Privates.{Private, actor_count, first_place, first_private, translation_at}
 use Rattle.plat_events.specs.Scans.{entry_scanned, turn_over, scan_from, poll_place, look_place}
-use Rattle.plat_events.specs.Events.{reach_now, look_up, look_up_place, turn_does, ticked, apply_message, switched, access_over, lock_place_after, thaw_of, pass_begun, moved_at, named_next, at, is_followed, item_at, with_item}
+use Rattle.plat_events.specs.Events.{reach_now, look_up, look_up_place, turn_does, ticked, apply_message, switched, access_over}
+use Rattle.plat_events.specs.Events.{lock_place_after, thaw_of, pass_begun, moved_at, named_next, at, is_followed, item_at, with_item}
 use Rattle.plat_events.specs.Shown.{IsReachedAlone}
 use Rattle.plat_local_laws.specs.Standing.{LockingOk, ScanningOk, TickingOk, SwitchingOk, PlaceOk, StandingOk}
 use Rattle.plat_local_laws.proofs.AloneLaws.{followed, alone-keeps}
 use Rattle.plat_local_laws.proofs.CourseLaws.{IsActor}
 use Rattle.plat_local_laws.proofs.PhaseLaws.{not_daemon}
 use Rattle.plat_local_laws.proofs.PmapLaws.{with_translation, TranslationsOk, TranslationsOk-with, told-ok, OnwardOk-told}
-use Rattle.plat_local_laws.proofs.TurnLaws.{standing-at, turn_over-ok, scan_from-ok, poll_place-ok, look_place-ok, reach_now-wanted, WantsAccess-from, look_up-ok}
+use Rattle.plat_local_laws.proofs.TurnLaws.{standing-at, turn_over-ok, scan_from-ok, poll_place-ok, look_place-ok, reach_now-wanted}
+use Rattle.plat_local_laws.proofs.TurnLaws.{WantsAccess-from, look_up-ok}
 use Rattle.plat_local_laws.proofs.SessionLaws.{HereOk, thaw-locked, session_at, session-step}
 
 -- ---- one step of each kind
@@ -120,7 +125,7 @@ locked-ok m answer a p fault n here h e =
     record {
       fault = h.locks;
       dir = dir_word-dir m n e;
-      phase = record { lacks = h.lacks; empty = λ l. not_daemon m a l daemon; thawed = λ _. not_true (dir_read n).frozen both.1 };
+      phase = record { lacks = h.lacks; empty = λ l. not_daemon m a l daemon; thawed = λ _. not-true (dir_read n).frozen both.1 };
     })
     (λ q. record {
       fault = h.locks;
@@ -131,10 +136,6 @@ locked-ok m answer a p fault n here h e =
     processor_of : (a == m.nodes) ≡ false → IsActor m a → a < m.nodes
     processor_of q (inl l) = l
     processor_of q (inr d) = absurd (eqb-false a m.nodes q d)
-
-    not_true : (b : Bool) → not b ≡ true → b ≡ false
-    not_true true q = absurd cc
-    not_true false q = refl
 
     frozen_by : (b : Bool) → a ≡ m.nodes → (a == m.nodes && not b) ≡ false → b ≡ true
     frozen_by true d q = refl
@@ -192,7 +193,8 @@ place-step m answer a p n TimeLooking here h e = pass-step m answer a p n here h
 place-step m answer a p n Over here h e = absurd cc
 
 -- the journal tells nothing of it
-with_journal : (m : Machine) (answer : Answer) (a : ℕ) (p : Private) (j : List Item) → StandingOk m answer a p → StandingOk m answer a (record p { journal = j })
+with_journal : (m : Machine) (answer : Answer) (a : ℕ) (p : Private) (j : List Item) → StandingOk m answer a p →
+    StandingOk m answer a (record p { journal = j })
 with_journal m answer a p j h =
     standing-at m answer a p p.place p.atc p.due j (record { all_entries = h.all_entries; translations = h.translations })
     h.turns_most h.place
@@ -228,7 +230,8 @@ none_at zero e t h = absurd cc
 none_at (suc n) zero t h = absurd cc
 none_at (suc n) (suc e) t h = none_at n e t h
 
-first-place : (m : Machine) (answer : Answer) (a : ℕ) → IsWithinLimits m → IsActor m a → PlaceOk m answer a (first_private m a) (first_place m a)
+first-place : (m : Machine) (answer : Answer) (a : ℕ) → IsWithinLimits m → IsActor m a →
+    PlaceOk m answer a (first_private m a) (first_place m a)
 first-place m answer a h actor =
     cond_both (a == m.nodes) LiveLooking (Polling NewTurn) (PlaceOk m answer a (first_private m a))
     (λ e. eqb-true a m.nodes e)

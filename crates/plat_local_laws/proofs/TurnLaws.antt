@@ -21,7 +21,8 @@ use Rattle.plat_base.specs.declared.guests.Want.TheVariants as want
 use Rattle.plat_laws.specs.Guests.{IsWithinLimits}
 use Rattle.plat_laws.proofs.GuestLaws.{IsReach-wanted, reach_of-page}
 use Rattle.plat_events.specs.Words.{has_bit, has_invalidate, has_restrict}
-use Rattle.plat_events.specs.Privates.{Onward, NewTurn, TurnOver, Relock, Rewait, Place, Polling, Looking, Applying, Loading, Expecting, Locking, Leaving, Private, translation_at}
+use Rattle.plat_events.specs.Privates.{Onward, NewTurn, TurnOver, Relock, Rewait, Place, Polling, Looking, Applying, Loading, Expecting}
+use Rattle.plat_events.specs.Privates.{Locking, Leaving, Private, translation_at}
 use Rattle.plat_events.specs.Sessions.{Fault}
 use Rattle.plat_events.specs.Events.{reach_wanted, reach_now, entry_of, look_up_place}
 use Rattle.plat_events.specs.Scans.{turn_over, go_on, scan_from, poll_place, look_place}

@@ -18,7 +18,8 @@ use Rattle.plat_base.specs.declared.items.Action.TheVariants as action
 use Rattle.plat_base.specs.declared.items.Removed.TheVariants as removed
 use Rattle.plat_laws.proofs.GuestLaws.{IsReach-wanted}
 use Rattle.plat_laws.proofs.SameLaws.{same_removed-true}
-use Rattle.plat_events.specs.Sessions.{Course, Phase, Stamping, Seeking, Taking, Returning, Shooting, Filling, Reading, Copying, Giving, Storing, Granting, Unlocking, Session, decision_of, entry_faulted, going}
+use Rattle.plat_events.specs.Sessions.{Course, Phase, Stamping, Seeking, Taking, Returning, Shooting, Filling, Reading, Copying, Giving}
+use Rattle.plat_events.specs.Sessions.{Storing, Granting, Unlocking, Session, decision_of, entry_faulted, going}
 use Rattle.plat_events.specs.Privates.{Private}
 use Rattle.plat_events.specs.Events.{reach_now, entry_of}
 use Rattle.plat_events.specs.Standings.{course_of, is_quiet, unlocking_of, frames_given, has_given, has_granted}
@@ -54,11 +55,13 @@ pub access-usable :
 access-usable m a p w h k =
     let e = entry_of m (reach_now m a p) in
     no_scan-usable m p e h
-    (and_from (space_of m e == p.guest.space) (not (has_left p.place)) (eq-eqb (space_of m e) p.guest.space (entry_now-space m a p w)) (rw k refl))
+    (and_from (space_of m e == p.guest.space) (not (has_left p.place)) (eq-eqb (space_of m e) p.guest.space (entry_now-space m a p w))
+    (rw k refl))
 
 -- ---- the granted entry
 
-granted_at : (entry : Option ℕ) (c : Option Course) (e d : ℕ) → option_map_or (λ (x : Course). option_map_or (λ y. y == e) entry false) c false ≡ true → (unwrap_or entry d ≡ e) × (is_some c ≡ true)
+granted_at : (entry : Option ℕ) (c : Option Course) (e d : ℕ) →
+    option_map_or (λ (x : Course). option_map_or (λ y. y == e) entry false) c false ≡ true → (unwrap_or entry d ≡ e) × (is_some c ≡ true)
 granted_at (Some y) (Some c) e d h = (eqb-true y e h, refl)
 granted_at (Some y) None e d h = absurd cc
 granted_at None (Some c) e d h = absurd cc
@@ -117,7 +120,8 @@ take-some f zero fs h = absurd cc
 take-some f (suc k) [] h = absurd cc
 take-some f (suc k) (g ∷ gs) h = omega arith
 
-given-some : (f : Frame) (phase : Phase) (fs : List Frame) → list_any (same_frame f) (frames_given fs phase) ≡ true → (0 < length fs) × (is_quiet phase ≡ true)
+given-some : (f : Frame) (phase : Phase) (fs : List Frame) → list_any (same_frame f) (frames_given fs phase) ≡ true →
+    (0 < length fs) × (is_quiet phase ≡ true)
 given-some f Stamping fs h = absurd cc
 given-some f (Seeking st i) fs h = absurd cc
 given-some f (Taking st i seen) fs h = absurd cc

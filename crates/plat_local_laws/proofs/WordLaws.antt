@@ -28,8 +28,10 @@ use Rattle.plat_words.proofs.Pools.{given_below}
 use Rattle.plat_events.specs.Words.{stamp_word, last_number, value_read, version_read, without_lowest, posted_mask}
 use Rattle.plat_events.specs.Places.{most_changes, is_word, is_mask_word}
 use Rattle.plat_events.specs.Shootdowns.{Shot, Posting, PostingOn, Asking, Interrupting, Watching, AskingAgain, target_at, shot_next}
-use Rattle.plat_events.specs.Sessions.{Fault, Course, Phase, Stamping, Seeking, Taking, Returning, Shooting, Filling, Reading, Copying, Giving, Storing, Granting, Unlocking, Session, decision_of, frame_going, last_stored, session_next}
-use Rattle.plat_events.specs.Privates.{Place, Polling, Looking, Applying, Ticking, Switching, Loading, Expecting, Exchanging, Locking, InSession, Leaving, Lessening, Gone, LiveLooking, TimeLooking, Over, Private, actor_count}
+use Rattle.plat_events.specs.Sessions.{Fault, Course, Phase, Stamping, Seeking, Taking, Returning, Shooting, Filling, Reading, Copying}
+use Rattle.plat_events.specs.Sessions.{Giving, Storing, Granting, Unlocking, Session, decision_of, frame_going, last_stored, session_next}
+use Rattle.plat_events.specs.Privates.{Place, Polling, Looking, Applying, Ticking, Switching, Loading, Expecting, Exchanging, Locking}
+use Rattle.plat_events.specs.Privates.{InSession, Leaving, Lessening, Gone, LiveLooking, TimeLooking, Over, Private, actor_count}
 use Rattle.plat_events.specs.Events.{reach_now, memory_now, word_after, named_next}
 use Rattle.plat_events.specs.Shown.{IsReachedAlone}
 use Rattle.plat_local_laws.specs.Faults.{AccessOk, FaultOk}
@@ -48,12 +50,13 @@ use Rattle.plat_local_laws.proofs.NameLaws.{target_at-below, going-frame}
 
 -- ---- counters
 
-turns-few : (m : Machine) → IsWithinLimits m → m.nodes * m.budget ≤ 524288
+pub turns-few : (m : Machine) → IsWithinLimits m → m.nodes * m.budget ≤ 524288
 turns-few m h = omega (arith, more_times m.nodes 8 m.budget (nodes-most m h), budget-most m h)
 
 -- ---- what a guest stores
 
-trap-operand : (b : Bool) (k1 k2 : Kind) (sp1 ad1 o1 sp ad o : ℕ) → (if b then want.Access k1 sp1 ad1 o1 else want.Trap) ≡ want.Access k2 sp ad o → o1 ≡ o
+trap-operand : (b : Bool) (k1 k2 : Kind) (sp1 ad1 o1 sp ad o : ℕ) → (if b then want.Access k1 sp1 ad1 o1 else want.Trap)
+    ≡ want.Access k2 sp ad o → o1 ≡ o
 trap-operand true k1 k2 sp1 ad1 o1 sp ad o h = cc
 trap-operand false k1 k2 sp1 ad1 o1 sp ad o h = absurd cc
 
@@ -86,7 +89,7 @@ next-operand :
 next-operand m s None k sp ad o h w = absurd cc
 next-operand m s (Some i) k sp ad o h w = wanted-operand m s i k sp ad o h w
 
-new_value-below : (k : Kind) (old o : ℕ) → old < 4294967296 → o < 4294967296 → new_value k old o < 4294967296
+pub new_value-below : (k : Kind) (old o : ℕ) → old < 4294967296 → o < 4294967296 → new_value k old o < 4294967296
 new_value-below kind.Load old o h l = h
 new_value-below kind.Store old o h l = l
 new_value-below kind.Add old o h l = wrapped (old + o)
@@ -95,7 +98,8 @@ new_value-below kind.Add old o h l = wrapped (old + o)
 
 exchange-word :
     (m : Machine) (a : ℕ) (p : Private) (seen n : ℕ) → IsWithinLimits m → AccessOk m a p true → HasNumbers p.guest
-    → version_read seen < m.nodes * m.budget → LeavesWord m (Some (memory_now m a p, op.Exchange seen (word_after (reach_now m a p) seen))) n
+    → version_read seen < m.nodes * m.budget →
+    LeavesWord m (Some (memory_now m a p, op.Exchange seen (word_after (reach_now m a p) seen))) n
 exchange-word m a p seen n h k numbers l w =
     let r = reach_now m a p in
     let value = new_value-below r.kind (value_read seen) r.operand (value_read-below seen)
@@ -138,7 +142,10 @@ after-dir m answer a p s c (inr q) f k = (thaw_decides m answer a p s c f k q).0
 stamp-words :
     (m : Machine) (answer : Answer) (a : ℕ) (p : Private) (s : Session) (c : Course) → IsWithinLimits m → StampOk m c.stamp
     → c.stamp.seq < most_changes → p.now ≤ m.nodes * m.budget → (page n : ℕ)
-    → LeavesWord m (Some (word.Stamp page, op.Store (stamp_word (last_stored (decision_of m answer a p.now s c) p.now c.stamp.last) (c.stamp.seq + 1)))) n
+    → LeavesWord m (Some (
+      word.Stamp page,
+      op.Store (stamp_word (last_stored (decision_of m answer a p.now s c) p.now c.stamp.last) (c.stamp.seq + 1)),
+    )) n
 stamp-words m answer a p s c h k l b page n w =
     let last = last_stored (decision_of m answer a p.now s c) p.now c.stamp.last in
     let most : last_number last ≤ m.nodes * m.budget + 1 =

@@ -1,5 +1,7 @@
 -- the guest of an actor and its journal, and how many turns, changes and passes there were
-use Rattle.std.specs.Prelude.{◌≡◌, ℕ, ◌+◌, ◌-◌, ◌*◌, ◌/◌, ◌<◌, ◌≤◌, if◌then◌else◌, Bool, true, false, length, count_by, sum_by, Option, Some, None, is_some}
+use Rattle.std.specs.Prelude.{◌≡◌, ℕ, ◌+◌, ◌-◌, ◌*◌, ◌/◌, ◌<◌, ◌≤◌, if◌then◌else◌, Bool, true, false, length, count_by, sum_by, Option}
+use Rattle.std.specs.Prelude.{Some, None, is_some}
+use Rattle.plat_base.specs.Items.{is_change, is_applied}
 use Rattle.plat_base.specs.Machine.{Machine}
 use Rattle.plat_base.specs.GuestRun.{guest_run}
 use Rattle.plat_base.specs.Done.{values_of}
@@ -9,7 +11,9 @@ use Rattle.plat_base.specs.declared.items.Translation.{Translation}
 use Rattle.plat_base.specs.declared.endings.End.{End}
 use Rattle.plat_base.specs.declared.endings.End.TheVariants as end
 use Rattle.plat_laws.specs.Guests.{IsGuest}
-use Rattle.plat_events.specs.Privates.{Onward, NewTurn, TurnOver, Relock, Rewait, Place, Polling, Looking, Applying, Ticking, Switching, Loading, Expecting, Exchanging, Locking, InSession, Leaving, Lessening, Gone, LiveLooking, TimeLooking, Over, Private, period}
+use Rattle.plat_events.specs.Privates.{Onward, NewTurn, TurnOver, Relock, Rewait, Place, Polling, Looking, Applying, Ticking, Switching}
+use Rattle.plat_events.specs.Privates.{Loading, Expecting, Exchanging, Locking, InSession, Leaving, Lessening, Gone, LiveLooking}
+use Rattle.plat_events.specs.Privates.{TimeLooking, Over, Private, period}
 use Rattle.plat_events.specs.Standings.{unlocking_of}
 use Rattle.plat_events.specs.Shown.{bit_of, items_by}
 
@@ -132,24 +136,12 @@ pub record GuestOk (m : Machine) (a : ℕ) (p : Private) : Type 0 where
 
 -- ---- numbers
 
-abbrev pub is_change : Item → Bool
-is_change (item.Access a) = false
-is_change (item.Change c) = true
-is_change (item.Applied x) = false
-is_change (item.Switch s) = false
-
 -- an access or a switch
 abbrev pub is_operation : Item → Bool
 is_operation (item.Access a) = true
 is_operation (item.Change c) = false
 is_operation (item.Applied x) = false
 is_operation (item.Switch s) = true
-
-abbrev pub is_message : Item → Bool
-is_message (item.Access a) = false
-is_message (item.Change c) = false
-is_message (item.Applied x) = true
-is_message (item.Switch s) = false
 
 -- how many messages can be applied to a translation: a restrict and an invalidate, or an invalidate where it is marked
 abbrev pub messages_left : Option Translation → ℕ
@@ -195,5 +187,5 @@ pub record NumbersOk (m : Machine) (a : ℕ) (p : Private) : Type 0 where
   -- two messages for each grant at most, those that can still be applied included
   pub messages :
       a < m.nodes →
-      count_by is_message p.journal + sum_by messages_left p.pmap ≤ 2 * (count_by is_change p.journal + bit_of (is_granted p.place))
+      count_by is_applied p.journal + sum_by messages_left p.pmap ≤ 2 * (count_by is_change p.journal + bit_of (is_granted p.place))
   pub passes : a ≡ m.nodes → PassesOk m p

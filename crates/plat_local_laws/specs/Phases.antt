@@ -11,7 +11,9 @@ use Rattle.plat_base.specs.declared.items.Action.TheVariants as action
 use Rattle.plat_events.specs.Words.{has_references}
 use Rattle.plat_events.specs.Places.{most_changes, is_mask_word, is_data_word}
 use Rattle.plat_events.specs.Shootdowns.{Shot, Posting, PostingOn, Asking, Interrupting, Watching, AskingAgain, targets}
-use Rattle.plat_events.specs.Sessions.{Stamp, Course, Phase, Stamping, Seeking, Taking, Returning, Shooting, Filling, Reading, Copying, Giving, Storing, Granting, Unlocking, Session, decision_of, entry_faulted, tried, going, translation_made}
+use Rattle.plat_events.specs.Sessions.{Stamp, Course, Phase, Stamping, Seeking, Taking, Returning, Shooting, Filling, Reading, Copying}
+use Rattle.plat_events.specs.Sessions.{Giving, Storing, Granting, Unlocking, Session, decision_of, entry_faulted, tried, going}
+use Rattle.plat_events.specs.Sessions.{translation_made}
 use Rattle.plat_events.specs.Privates.{Private, translation_at}
 use Rattle.plat_local_laws.specs.Faults.{LacksRight, FaultOk}
 
@@ -127,7 +129,8 @@ pub record QuietOk (m : Machine) (answer : Answer) (a : ℕ) (p : Private) (s : 
   pub silent : removes_some (decision_of m answer a p.now s c).removed ≡ false → c.posts ≡ []
 
 -- a word of the frame in hand is filled or copied, by an action that does so
-pub record FillingOk (m : Machine) (answer : Answer) (a : ℕ) (p : Private) (s : Session) (c : Course) (does : Action → Bool) (w : ℕ) : Type 0 where
+pub record FillingOk (m : Machine) (answer : Answer) (a : ℕ) (p : Private) (s : Session) (c : Course) (does : Action → Bool) (w : ℕ) : Type
+    0 where
   pub lacks : LacksRight m a p
   pub quiet : QuietOk m answer a p s c
   pub action : does (decision_of m answer a p.now s c).action ≡ true

@@ -13,7 +13,9 @@ use Rattle.plat_base.specs.declared.endings.End.{End}
 use Rattle.plat_events.specs.Places.{entry_count, is_data_word}
 use Rattle.plat_events.specs.Shootdowns.{Watching}
 use Rattle.plat_events.specs.Sessions.{Fault, Course, Session, Shooting}
-use Rattle.plat_events.specs.Privates.{Onward, NewTurn, TurnOver, Relock, Rewait, Place, Polling, Looking, Applying, Ticking, Switching, Loading, Expecting, Exchanging, Locking, InSession, Leaving, Lessening, Gone, LiveLooking, TimeLooking, Over, Private, translation_at}
+use Rattle.plat_events.specs.Privates.{Onward, NewTurn, TurnOver, Relock, Rewait, Place, Polling, Looking, Applying, Ticking, Switching}
+use Rattle.plat_events.specs.Privates.{Loading, Expecting, Exchanging, Locking, InSession, Leaving, Lessening, Gone, LiveLooking}
+use Rattle.plat_events.specs.Privates.{TimeLooking, Over, Private, translation_at}
 use Rattle.plat_local_laws.specs.Faults.{LacksRight, AccessOk, FaultOk, EndOk}
 use Rattle.plat_local_laws.specs.Phases.{SessionOk}
 

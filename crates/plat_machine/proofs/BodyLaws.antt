@@ -1,5 +1,7 @@
 -- a guest's lines: what is read is spelled so, and what is spelled so is read
-use Rattle.std.proofs.Common.{◌≡◌, ℕ, zero, suc, ◌+◌, ◌<◌, ◌≤◌, Bool, true, false, not, ◌&&◌, ◌||◌, cond, leb, List, [], ◌∷◌, ◌++◌, length, map, Option, Some, None, option_map, Result, Ok, Err, codes, bytes_eq, refl, ap, sym, ◌∙◌, subst, arith, ⊎_elim, append_assoc, append-nil, length-append}
+use Rattle.std.proofs.Common.{◌≡◌, ℕ, zero, suc, ◌+◌, ◌<◌, ◌≤◌, Bool, true, false, not, ◌&&◌, ◌||◌, cond, leb, List, [], ◌∷◌, ◌++◌, length}
+use Rattle.std.proofs.Common.{map, Option, Some, None, option_map, Result, Ok, Err, codes, bytes_eq, refl, ap, sym, ◌∙◌, subst, arith}
+use Rattle.std.proofs.Common.{⊎_elim, append_assoc, append-nil, length-append}
 use Rattle.std.specs.List.{AllByRecursion, list_any}
 use Rattle.std.proofs.lemmas.Bool.{cases_Bool, or_parts, or_from, leb-false, lt-leb}
 use Rattle.std.proofs.lemmas.Bool.Decides.{same_from_decides}
@@ -32,11 +34,15 @@ use Rattle.plat_machine.proofs.MarkLaws.{Mark, does, place, codes_of, places_of,
 same_name-symmetric : (a b : Label) → same_name a b ≡ same_name b a
 same_name-symmetric a b = swapped a.name b.name where
   swapped : (x y : List ℕ) → bytes_eq x y ≡ bytes_eq y x
-  swapped x y = same_from_decides (bytes_eq x y) (bytes_eq y x) (bytes_eq-Decides x y) ((λ e. sym ((bytes_eq-Decides y x).0 e)), (λ e. (bytes_eq-Decides y x).1 (sym e)))
+  swapped x y = same_from_decides (bytes_eq x y) (bytes_eq y x) (bytes_eq-Decides x y) (
+    (λ e. sym ((bytes_eq-Decides y x).0 e)),
+    (λ e. (bytes_eq-Decides y x).1 (sym e)),
+  )
 
 new_name-law : (count : ℕ) → IsWordForm (name_after count) (λ n. n) (λ n. (is_label_name n ≡ true) × (count < 256))
 new_name-law count = record {
-  takes = λ w n e. let u = room_left (leb 256 count) (name_of w) n e in let t = name-law.takes w n u.1 in (t.0, (t.1, leb-false 256 count u.0));
+  takes = λ w n e. let u = room_left (leb 256 count) (name_of w) n e in let t = name-law.takes w n u.1 in
+      (t.0, (t.1, leb-false 256 count u.0));
   again = λ n h. rw (lt-leb 256 count h.1) (name-law.again n h.0);
 } where
   room_left : (b : Bool) (r : Result (List ℕ) Why) (n : List ℕ) → cond b (Err why.TooMany) r ≡ Ok n → (b ≡ false) × (r ≡ Ok n)
@@ -56,8 +62,11 @@ read_label-law at count = record {
       let t = (before-law (one-law (new_name-law count)) nothing-law).takes row x x-is in
       rw (← value) (t.0, (refl, t.1.0.0, t.1.0.1)));
   again = λ row l h e.
-      let t = (before-law (one-law (new_name-law count)) nothing-law).again row (l.name, tt) ((h.1, h.2), tt) e in
-      (record { name = t.0.0; at = at }, then_ok ((one (name_after count) · nothing) row) _ t.0 _ t.1 refl, same l t.0.0 (ap (λ p. p.0) t.2) h.0);
+      let t = (before-law (one-law (new_name-law count)) nothing-law).again row (l.name, tt) ((h.1, h.2), tt) e in (
+        record { name = t.0.0; at = at },
+        then_ok ((one (name_after count) · nothing) row) _ t.0 _ t.1 refl,
+        same l t.0.0 (ap (λ p. p.0) t.2) h.0,
+      );
 } where
   same : (l : Label) (n : List ℕ) → n ≡ l.name → l.at ≡ at → record { name = n; at = at } ≡ l
   same l n e f = ap (λ k. record { name = k; at = at }) e ∙ ap (λ k. record { name = l.name; at = k }) (sym f)
@@ -81,8 +90,13 @@ body_line-takes : (drafts : List Draft) (labels : List Label) (row : Row) (b : L
 unfolding body_line label_line
 body_line-takes drafts labels row b e = taking (word_at row) _ b e (λ w w-is e1. ⊎_elim
     (λ t. taking (once same_name labels (read_label (length drafts) (length labels)) w.1) _ b (rw t at e1) (λ l l-is e2.
-    let u = once-takes same_name (read_label-law (length drafts) (length labels)) labels w.1 l l-is in
-    (place l, sym (ok_is _ b e2), texts_taken row w.0 w.1 (word_taken row w.0 w.1 w-is) ∙ rw ((bytes_eq-Decides w.0.bytes (codes "label")).0 t, u.0) refl, (u.1, u.2))))
+    let u = once-takes same_name (read_label-law (length drafts) (length labels)) labels w.1 l l-is in (
+      place l,
+      sym (ok_is _ b e2),
+      texts_taken row w.0 w.1 (word_taken row w.0 w.1 w-is)
+          ∙ rw ((bytes_eq-Decides w.0.bytes (codes "label")).0 t, u.0) refl,
+      (u.1, u.2),
+    )))
     (λ t. taking (instruction_line (length drafts) row) _ b (rw t at e1) (λ d d-is e2.
     let u = instruction-takes (length drafts) row d d-is in
     (does d, sym (ok_is _ b e2), u.0, (u.1, u.2))))
@@ -105,7 +119,8 @@ all-push P (y ∷ ys) x h p = (h.0, all-push P ys x h.1 p)
 pub no_body : IsBody [] []
 no_body = record { code = omega arith; fits = tt; few = omega arith; names = tt; differ = refl }
 
-one_more : (drafts : List Draft) (labels : List Label) (m : Mark Draft) → IsBody drafts labels → MarkFits drafts labels m → IsBody (added drafts labels m).0 (added drafts labels m).1
+one_more : (drafts : List Draft) (labels : List Label) (m : Mark Draft) → IsBody drafts labels → MarkFits drafts labels m →
+    IsBody (added drafts labels m).0 (added drafts labels m).1
 one_more drafts labels (does d) h f = record {
   code = omega (arith, length_push drafts d, f.1);
   fits = all-push (λ d. NamedFits (named d)) drafts d h.fits f.0;
@@ -134,7 +149,8 @@ pub record ReadsBody (drafts : List Draft) (labels : List Label) (rest after : R
   pub body : IsBody drafts labels → IsBody ds ls
 
 -- one line before others
-add_mark : (drafts : List Draft) (labels : List Label) (a b c : Rest) (ds : List Draft) (ls : List Label) (m : Mark Draft) → MarkFits drafts labels m → Took a b (draft_mark_words m ∷ [])
+add_mark : (drafts : List Draft) (labels : List Label) (a b c : Rest) (ds : List Draft) (ls : List Label) (m : Mark Draft) →
+    MarkFits drafts labels m → Took a b (draft_mark_words m ∷ [])
     → ReadsBody (added drafts labels m).0 (added drafts labels m).1 b c ds ls → ReadsBody drafts labels a c ds ls
 add_mark drafts labels a b c ds ls (does d) f t u = record {
   marks = does d ∷ u.marks;
@@ -153,14 +169,17 @@ add_mark drafts labels a b c ds ls (place l) f t u = record {
   body = λ h. u.body (one_more drafts labels (place l) h f);
 }
 
-pub body-takes : (stop : Stop) (given : ℕ) (drafts : List Draft) (labels : List Label) (rows : List Row) (ds : List Draft) (ls : List Label) (after : Rest)
+pub body-takes : (stop : Stop) (given : ℕ) (drafts : List Draft) (labels : List Label) (rows : List Row) (ds : List Draft) (ls : List Label)
+    (after : Rest)
     → body_from stop given drafts labels rows ≡ Ok ((ds, ls), after) → ReadsBody drafts labels (here stop given rows) after ds ls
 unfolding body_from
 body-takes stop given drafts labels [] ds ls after e = cc
 body-takes stop given drafts labels (row ∷ rows) ds ls after e = taking (first_word row) _ _ e (λ w w-is e1. ⊎_elim
     (λ t.
-    let e2 : ◌≡◌ {A = Result ((List Draft × List Label) × Rest) Refused} (Ok ((drafts, labels), here stop given (row ∷ rows))) (Ok ((ds, ls), after)) = rw t at e1 in
-    let same : ◌≡◌ {A = List Draft × List Label} (drafts, labels) (ds, ls) = ok_first ((drafts, labels), here stop given (row ∷ rows)) ((ds, ls), after) e2 in
+    let e2 : ◌≡◌ {A = Result ((List Draft × List Label) × Rest) Refused} (Ok ((drafts, labels), here stop given (row ∷ rows)))
+    (Ok ((ds, ls), after)) = rw t at e1 in
+    let same : ◌≡◌ {A = List Draft × List Label} (drafts, labels) (ds, ls) =
+    ok_first ((drafts, labels), here stop given (row ∷ rows)) ((ds, ls), after) e2 in
     let left : here stop given (row ∷ rows) ≡ after = ok_second ((drafts, labels), here stop given (row ∷ rows)) ((ds, ls), after) e2 in
     let drafts_same : drafts ≡ ds = ap (λ p. p.0) same in
     let labels_same : labels ≡ ls = ap (λ p. p.1) same in
@@ -177,7 +196,8 @@ body-takes stop given drafts labels (row ∷ rows) ds ls after e = taking (first
     let e3 = rw u.1 at e2 in
     let next = body-takes stop (given + row_length row) (added drafts labels u.0).0 (added drafts labels u.0).1 rows ds ls after e3 in
     let first : Took (here stop given (row ∷ rows)) (here stop (given + row_length row) rows) (draft_mark_words u.0 ∷ []) =
-    rw (← u.2) (took_row (here stop given (row ∷ rows)) row (here stop (given + row_length row) rows) (record { rows = refl; stop = refl; given = refl })) in
+    rw (← u.2) (took_row (here stop given (row ∷ rows)) row (here stop (given + row_length row) rows)
+    (record { rows = refl; stop = refl; given = refl })) in
     add_mark drafts labels (here stop given (row ∷ rows)) (here stop (given + row_length row) rows) after ds ls u.0 u.3 first next))
     (cases_Bool (ends_guest w.bytes)))
 
@@ -218,34 +238,38 @@ EndsGuest ((w ∷ ws) ∷ ls) = ends_guest w ≡ true
 first_is : (row : Row) (w : Word) (after : Row) → word_at row ≡ Ok (w, after) → first_word row ≡ Ok w
 first_is row w after e = then_ok (word_at row) _ (w, after) _ e refl
 
-pub record BodyAgain (names : ℕ → List ℕ) (read : Result ((List Draft × List Label) × Rest) Refused) (drafts : List Draft) (labels : List Label) (ms : List (Mark Instr)) (more : List Words) : Type 0 where
+pub record BodyAgain (names : ℕ → List ℕ) (read : Result ((List Draft × List Label) × Rest) Refused) (drafts : List Draft)
+    (labels : List Label) (ms : List (Mark Instr)) (more : List Words) : Type 0 where
   pub ds : List Draft
   pub after : Rest
   pub reads : read ≡ Ok ((drafts ++ ds, labels ++ places_of ms), after)
   pub named_as : map named ds ≡ map (named_by names) (codes_of ms)
   pub lists : rest_lists after ≡ more
 
-module _ (names : ℕ → List ℕ) (n : ℕ) (spelled : (l : ℕ) → l < n → is_label_name (names l) ≡ true) (more : List Words) (ends : EndsGuest more) (stop : Stop) where
+module _ (names : ℕ → List ℕ) (n : ℕ) (spelled : (l : ℕ) → l < n → is_label_name (names l) ≡ true) (more : List Words)
+    (ends : EndsGuest more) (stop : Stop) where
   abbrev lines_of_marks : List (Mark Instr) → List Words
   lines_of_marks ms = map (λ m. mark_words (instr_words names) m) ms
 
   pub body-again : (ms : List (Mark Instr)) (given : ℕ) (drafts : List Draft) (labels : List Label) (rows : List Row)
-      → AllByRecursion (λ i. is_instr n i ≡ true) (codes_of ms) → AllByRecursion (λ l. is_label_name l.name ≡ true) (places_of ms) → all_differ same_name (labels ++ places_of ms) ≡ true
+      → AllByRecursion (λ i. is_instr n i ≡ true) (codes_of ms) → AllByRecursion (λ l. is_label_name l.name ≡ true) (places_of ms) →
+      all_differ same_name (labels ++ places_of ms) ≡ true
       → length drafts + length (codes_of ms) ≤ 4096 → length labels + length (places_of ms) ≤ 256 → AreInOrder (length drafts) ms
       → row_lists rows ≡ lines_of_marks ms ++ more → BodyAgain names (body_from stop given drafts labels rows) drafts labels ms more
   unfolding body_from body_line label_line
   body-again [] given drafts labels [] fit spell apart few_code few_labels order e = absurd (subst EndsGuest (sym e) ends)
-  body-again [] given drafts labels (row ∷ rows) fit spell apart few_code few_labels order e = by_words row.words (subst EndsGuest (sym e) ends) e where
-    by_words : (ws : List Word) → EndsGuest (texts ws ∷ row_lists rows) → texts ws ∷ row_lists rows ≡ more
-        → BodyAgain names (body_from stop given drafts labels (record row { words = ws } ∷ rows)) drafts labels [] more
-    by_words [] t e = absurd t
-    by_words (w ∷ ws) t e = record {
-      ds = [];
-      after = here stop given (record row { words = w ∷ ws } ∷ rows);
-      reads = rw (t, append-nil, append-nil) refl;
-      named_as = refl;
-      lists = e;
-    }
+  body-again [] given drafts labels (row ∷ rows) fit spell apart few_code few_labels order e =
+      by_words row.words (subst EndsGuest (sym e) ends) e where
+        by_words : (ws : List Word) → EndsGuest (texts ws ∷ row_lists rows) → texts ws ∷ row_lists rows ≡ more
+            → BodyAgain names (body_from stop given drafts labels (record row { words = ws } ∷ rows)) drafts labels [] more
+        by_words [] t e = absurd t
+        by_words (w ∷ ws) t e = record {
+          ds = [];
+          after = here stop given (record row { words = w ∷ ws } ∷ rows);
+          reads = rw (t, append-nil, append-nil) refl;
+          named_as = refl;
+          lists = e;
+        }
   body-again (does i ∷ ms) given drafts labels [] fit spell apart few_code few_labels order e = absurd cc
   body-again (place l ∷ ms) given drafts labels [] fit spell apart few_code few_labels order e = absurd cc
   body-again (does i ∷ ms) given drafts labels (row ∷ rows) fit spell apart few_code few_labels order e =
@@ -255,13 +279,15 @@ module _ (names : ℕ → List ℕ) (n : ℕ) (spelled : (l : ℕ) → l < n →
       let t = word_there row key.key key.others (first ∙ key.parts) in
       let d = instruction-again (length drafts) (omega (arith, few_code)) names n spelled row i fit.0 first in
       let next = body-again ms (given + row_length row) (drafts ++ d.0 ∷ []) labels rows fit.1 spell apart
-      (omega (arith, few_code, length_push drafts d.0)) few_labels (subst (λ k. AreInOrder k ms) (sym (length_push drafts d.0)) order) others in
+      (omega (arith, few_code, length_push drafts d.0)) few_labels (subst (λ k. AreInOrder k ms) (sym (length_push drafts d.0)) order)
+      others in
       record {
         ds = d.0 ∷ next.ds;
         after = next.after;
         reads = then_ok (first_word row) _ t.0 _ (first_is row t.0 t.1 t.2) (rw (t.3, key.no_end)
             (then_ok (body_line drafts labels row) _ (drafts ++ d.0 ∷ [], labels) _
-            (then_ok (word_at row) _ (t.0, t.1) _ t.2 (rw (t.3, key.no_label) (then_ok (instruction_line (length drafts) row) _ d.0 _ d.1 refl)))
+            (then_ok (word_at row) _ (t.0, t.1) _ t.2
+            (rw (t.3, key.no_label) (then_ok (instruction_line (length drafts) row) _ d.0 _ d.1 refl)))
             (next.reads ∙ ap (λ k. Ok ((k, labels ++ places_of ms), next.after)) (append_assoc drafts (d.0 ∷ []) next.ds))));
         named_as = rw (d.2, next.named_as) refl;
         lists = next.lists;
@@ -271,7 +297,11 @@ module _ (names : ℕ → List ℕ) (n : ℕ) (spelled : (l : ℕ) → l < n →
       let others : row_lists rows ≡ lines_of_marks ms ++ more = cc in
       let t = word_there row (codes "label") (l.name ∷ []) first in
       let alone = differ-at same_name same_name-symmetric labels l (places_of ms) apart in
-      let o = once-again same_name (read_label-law (length drafts) (length labels)) labels t.1 l l.name [] (order.0, spell.0, omega (arith, few_labels)) refl alone t.4 in
+      let o = once-again same_name (read_label-law (length drafts) (length labels)) labels t.1 l l.name [] (
+        order.0,
+        spell.0,
+        omega (arith, few_labels),
+      ) refl alone t.4 in
       let next = body-again ms (given + row_length row) drafts (labels ++ l ∷ []) rows fit spell.1 (rw append_assoc apart)
       few_code (omega (arith, few_labels, length_push labels l)) order.1 others in
       record {
@@ -279,7 +309,8 @@ module _ (names : ℕ → List ℕ) (n : ℕ) (spelled : (l : ℕ) → l < n →
         after = next.after;
         reads = then_ok (first_word row) _ t.0 _ (first_is row t.0 t.1 t.2) (rw t.3
             (then_ok (body_line drafts labels row) _ (drafts, labels ++ l ∷ []) _
-            (then_ok (word_at row) _ (t.0, t.1) _ t.2 (rw t.3 (then_ok (once same_name labels (read_label (length drafts) (length labels)) t.1) _ l _ o refl)))
+            (then_ok (word_at row) _ (t.0, t.1) _ t.2
+            (rw t.3 (then_ok (once same_name labels (read_label (length drafts) (length labels)) t.1) _ l _ o refl)))
             (next.reads ∙ ap (λ k. Ok ((drafts ++ next.ds, k), next.after)) (append_assoc labels (l ∷ []) (places_of ms)))));
         named_as = next.named_as;
         lists = next.lists;

@@ -1,5 +1,6 @@
 -- the lines before the distances: what is read is spelled so, and what is spelled so is read
-use Rattle.std.proofs.Common.{◌≡◌, ℕ, ◌+◌, ◌^◌, ◌<◌, ◌≤◌, Bool, true, false, ◌&&◌, cond, eqb, leb, ltb, List, [], ◌∷◌, ◌++◌, length, map, Result, Ok, Err, codes, IsTrue, refl, ap, sym, ◌∙◌, subst, arith}
+use Rattle.std.proofs.Common.{◌≡◌, ℕ, ◌+◌, ◌^◌, ◌<◌, ◌≤◌, Bool, true, false, ◌&&◌, cond, eqb, leb, ltb, List, [], ◌∷◌, ◌++◌, length, map}
+use Rattle.std.proofs.Common.{Result, Ok, Err, codes, IsTrue, refl, ap, sym, ◌∙◌, subst, arith}
 use Rattle.std.specs.Fmt.{decimal}
 use Rattle.std.specs.List.{AllByRecursion, list_all, list_any}
 use Rattle.std.proofs.lemmas.Bool.{and_parts, and_from, leb-true, le-leb, lt-ltb, ltb-true}
@@ -7,8 +8,10 @@ use Rattle.std.proofs.lemmas.Bool.Decides.{nat_tests}
 use Rattle.plat_grammar.specs.Lines.{number_of}
 use Rattle.plat_base.specs.Machine.{Turns, robin, random, listed, is_within, is_page_size, is_policy, is_schedule, is_number}
 use Rattle.plat_base.specs.Canon.{policy_words, schedule_words, number_line as number_words}
-use Rattle.plat_grammar.specs.Forms.{◌>>=◌, Row, Rest, refused, one, nothing, ◌·◌, number, any_number, made, chosen, choice, number_in, line_at, listed as listed_form}
-use Rattle.plat_grammar.specs.FirstFault.{number_line, page_size, size_of, size_line, version_line, platinum_line, policies, policy_line, random_line, schedules, schedule_line, Header, header_at}
+use Rattle.plat_grammar.specs.Forms.{◌>>=◌, Row, Rest, refused, one, nothing, ◌·◌, number, any_number, made, chosen, choice, number_in}
+use Rattle.plat_grammar.specs.Forms.{line_at, listed as listed_form}
+use Rattle.plat_grammar.specs.FirstFault.{number_line, page_size, size_of, size_line, version_line, platinum_line, policies, policy_line}
+use Rattle.plat_grammar.specs.FirstFault.{random_line, schedules, schedule_line, Header, header_at}
 use Rattle.plat_base.specs.declared.faults.Refused.{Refused}
 use Rattle.plat_base.specs.declared.faults.Why.{Why}
 use Rattle.plat_base.specs.declared.faults.Why.TheVariants as why
@@ -17,7 +20,8 @@ use Rattle.plat_base.specs.declared.policies.PolicyKind.TheVariants as policy
 use Rattle.plat_text.proofs.Results.{taking, then_ok, ok_is, ok_first, ok_second, let_through}
 use Rattle.plat_text.proofs.NumberLemmas.{number_of-takes, number_of-again}
 use Rattle.plat_text.proofs.WordLaws.{IsWordForm, number-law, any-law, exactly-law, is_within-true, is_within-from}
-use Rattle.plat_text.proofs.FormLaws.{row_texts, IsTail, IsKind, one-law, nothing-law, before-law, made-law, same-law, listed-law, made-kind, made-again, choice-takes, choice-again}
+use Rattle.plat_text.proofs.FormLaws.{row_texts, IsTail, IsKind, one-law, nothing-law, before-law, made-law, same-law, listed-law}
+use Rattle.plat_text.proofs.FormLaws.{made-kind, made-again, choice-takes, choice-again}
 use Rattle.plat_text.proofs.SectionLaws.{rest_lists, Took, took_then, IsSection, line-law, again_exactly}
 
 -- ---- one word
@@ -29,10 +33,11 @@ module _ {A : Type 0} {of : List ℕ → Result A Why} {spell : A → List ℕ} 
       same-law (made-law (before-law (one-law law) nothing-law) (λ x. x.0) (λ x. x) (λ x. (x, tt)) (λ a. refl) (λ a d e. ap (λ p. p.0) e))
       (λ y h. (refl, h.0)) (λ y h. (refl, (h, tt)))
 
-pub number_line-law : (low high : ℕ) → high < 2 ^ 32 → IsTail (number_line low high) (λ n. n) (λ n. decimal n ∷ []) (λ n. (low ≤ n) × (n ≤ high))
+pub number_line-law : (low high : ℕ) → high < 2 ^ 32 →
+    IsTail (number_line low high) (λ n. n) (λ n. decimal n ∷ []) (λ n. (low ≤ n) × (n ≤ high))
 number_line-law low high fits = single-law (number-law low high fits)
 
-page_size-small : (n : ℕ) → is_page_size n ≡ true → n < 2 ^ 32
+pub page_size-small : (n : ℕ) → is_page_size n ≡ true → n < 2 ^ 32
 page_size-small n e = grind (arith, nat_tests, e)
 
 size-law : IsWordForm size_of decimal (λ n. is_page_size n ≡ true)
@@ -56,28 +61,41 @@ IsPolicy p = IsTrue (is_policy p)
 module _ (row : Row) where
   policy-takes : (p : PolicyKind) → policy_line row ≡ Ok p → (row_texts row ≡ policy_kind_words p) × IsPolicy p
   policy-takes p e = choice-takes (λ p. p) policy_kind_words IsPolicy policies why.UnknownPolicy row p (
-    made-kind nothing-law (λ _. policy.Place) (λ p. p) (λ _. policy.Place) (λ a. refl) policy_kind_words IsPolicy (codes "place") (λ b h. (refl, refl)),
+    made-kind nothing-law (λ _. policy.Place) (λ p. p) (λ _. policy.Place) (λ a. refl) policy_kind_words IsPolicy (codes "place")
+        (λ b h. (refl, refl)),
     (
-      made-kind nothing-law (λ _. policy.Replicate) (λ p. p) (λ _. policy.Replicate) (λ a. refl) policy_kind_words IsPolicy (codes "replicate") (λ b h. (refl, refl)),
+      made-kind nothing-law (λ _. policy.Replicate) (λ p. p) (λ _. policy.Replicate) (λ a. refl) policy_kind_words IsPolicy
+          (codes "replicate") (λ b h. (refl, refl)),
       (
-        made-kind (before-law (one-law (number-law 0 1000000 (omega arith))) (before-law (one-law (number-law 64 1000000 (omega arith))) nothing-law))
-            (λ x. policy.Platinum x.0 x.1.0) (λ p. p) (λ b. policy.Platinum b.0 b.1.0) (λ a. refl) policy_kind_words IsPolicy (codes "platinum")
-            (λ b h. (refl, and_from (leb b.0 1000000) (is_within 64 1000000 b.1.0) (le-leb b.0 1000000 h.0.1) (is_within-from 64 1000000 b.1.0 h.1.0.0 h.1.0.1))),
+        made-kind (before-law (one-law (number-law 0 1000000 (omega arith)))
+            (before-law (one-law (number-law 64 1000000 (omega arith))) nothing-law))
+            (λ x. policy.Platinum x.0 x.1.0) (λ p. p) (λ b. policy.Platinum b.0 b.1.0) (λ a. refl) policy_kind_words IsPolicy
+            (codes "platinum")
+            (λ b h. (
+              refl,
+              and_from (leb b.0 1000000) (is_within 64 1000000 b.1.0) (le-leb b.0 1000000 h.0.1)
+                  (is_within-from 64 1000000 b.1.0 h.1.0.0 h.1.0.1),
+            )),
         tt,
       ),
     ),
   ) e
 
   policy-again : (p : PolicyKind) → IsPolicy p → row_texts row ≡ policy_kind_words p → (x : PolicyKind) × (policy_line row ≡ Ok x) × (x ≡ p)
-  policy-again policy.Place h e = choice-again (λ p. p) policy_kind_words IsPolicy policies why.UnknownPolicy row policy.Place (codes "place") [] e
+  policy-again policy.Place h e = choice-again (λ p. p) policy_kind_words IsPolicy policies why.UnknownPolicy row policy.Place
+      (codes "place") [] e
       (λ fault after a. made-again nothing-law (λ _. policy.Place) (λ p. p) (λ _. policy.Place) (λ a. refl) after tt tt a)
-  policy-again policy.Replicate h e = choice-again (λ p. p) policy_kind_words IsPolicy policies why.UnknownPolicy row policy.Replicate (codes "replicate") [] e
+  policy-again policy.Replicate h e = choice-again (λ p. p) policy_kind_words IsPolicy policies why.UnknownPolicy row policy.Replicate
+      (codes "replicate") [] e
       (λ fault after a. made-again nothing-law (λ _. policy.Replicate) (λ p. p) (λ _. policy.Replicate) (λ a. refl) after tt tt a)
   policy-again (policy.Platinum t1 t2) h e =
       let parts = and_parts (leb t1 1000000) (is_within 64 1000000 t2) h in
-      choice-again (λ p. p) policy_kind_words IsPolicy policies why.UnknownPolicy row (policy.Platinum t1 t2) (codes "platinum") (decimal t1 ∷ decimal t2 ∷ []) e
-      (λ fault after a. made-again (before-law (one-law (number-law 0 1000000 (omega arith))) (before-law (one-law (number-law 64 1000000 (omega arith))) nothing-law))
-      (λ x. policy.Platinum x.0 x.1.0) (λ p. p) (λ b. policy.Platinum b.0 b.1.0) (λ a. refl) after (t1, (t2, tt)) ((omega arith, leb-true t1 1000000 parts.0), (is_within-true 64 1000000 t2 parts.1, tt)) a)
+      choice-again (λ p. p) policy_kind_words IsPolicy policies why.UnknownPolicy row (policy.Platinum t1 t2) (codes "platinum")
+      (decimal t1 ∷ decimal t2 ∷ []) e
+      (λ fault after a. made-again (before-law (one-law (number-law 0 1000000 (omega arith)))
+      (before-law (one-law (number-law 64 1000000 (omega arith))) nothing-law))
+      (λ x. policy.Platinum x.0 x.1.0) (λ p. p) (λ b. policy.Platinum b.0 b.1.0) (λ a. refl) after (t1, (t2, tt))
+      ((omega arith, leb-true t1 1000000 parts.0), (is_within-true 64 1000000 t2 parts.1, tt)) a)
 
 pub policy-law : IsTail policy_line (λ p. p) policy_kind_words IsPolicy
 policy-law = record { takes = policy-takes; again = policy-again }
@@ -98,36 +116,51 @@ all_up_to nodes (x ∷ xs) h = and_from (leb x nodes) (list_all (λ a. leb a nod
 
 up_to_all : (nodes : ℕ) (xs : List ℕ) → list_all (λ a. leb a nodes) xs ≡ true → AllByRecursion (λ n. (0 ≤ n) × (n ≤ nodes)) xs
 up_to_all nodes [] h = tt
-up_to_all nodes (x ∷ xs) h = let parts = and_parts (leb x nodes) (list_all (λ a. leb a nodes) xs) h in ((omega arith, leb-true x nodes parts.0), up_to_all nodes xs parts.1)
+up_to_all nodes (x ∷ xs) h = let parts = and_parts (leb x nodes) (list_all (λ a. leb a nodes) xs) h in
+    ((omega arith, leb-true x nodes parts.0), up_to_all nodes xs parts.1)
 
 module _ (nodes : ℕ) (few : nodes < 2 ^ 32) (row : Row) where
   schedule-takes : (t : Turns) → schedule_line nodes row ≡ Ok t → (row_texts row ≡ turns_words t) × IsSchedule nodes t
   schedule-takes t e = choice-takes (λ t. t) turns_words (IsSchedule nodes) (schedules nodes) why.UnknownSchedule row t (
-    made-kind nothing-law (λ _. robin) (λ t. t) (λ _. robin) (λ a. refl) turns_words (IsSchedule nodes) (codes "robin") (λ b h. (refl, refl)),
+    made-kind nothing-law (λ _. robin) (λ t. t) (λ _. robin) (λ a. refl) turns_words (IsSchedule nodes) (codes "robin")
+        (λ b h. (refl, refl)),
     (
-      made-kind (before-law (one-law any-law) (before-law (one-law any-law) nothing-law)) (λ x. random x.0 x.1.0) (λ t. t) (λ b. random b.0 b.1.0) (λ a. refl)
-          turns_words (IsSchedule nodes) (codes "random") (λ b h. (refl, and_from (is_number b.0) (is_number b.1.0) (lt-ltb b.0 4294967296 h.0) (lt-ltb b.1.0 4294967296 h.1.0))),
+      made-kind (before-law (one-law any-law) (before-law (one-law any-law) nothing-law)) (λ x. random x.0 x.1.0) (λ t. t)
+          (λ b. random b.0 b.1.0) (λ a. refl)
+          turns_words (IsSchedule nodes) (codes "random")
+          (λ b h. (refl, and_from (is_number b.0) (is_number b.1.0) (lt-ltb b.0 4294967296 h.0) (lt-ltb b.1.0 4294967296 h.1.0))),
       (
-        made-kind (listed-law (number-law 0 nodes few) 4096) listed (λ t. t) listed (λ a. refl) turns_words (IsSchedule nodes) (codes "list")
-            (λ b h. (refl, and_from (is_within 1 4096 (length b)) (list_all (λ a. leb a nodes) b) (is_within-from 1 4096 (length b) h.0 h.1) (all_up_to nodes b h.2))),
+        made-kind (listed-law (number-law 0 nodes few) 4096) listed (λ t. t) listed (λ a. refl) turns_words (IsSchedule nodes)
+            (codes "list")
+            (λ b h. (
+              refl,
+              and_from (is_within 1 4096 (length b)) (list_all (λ a. leb a nodes) b) (is_within-from 1 4096 (length b) h.0 h.1)
+                  (all_up_to nodes b h.2),
+            )),
         tt,
       ),
     ),
   ) e
 
-  schedule-again : (t : Turns) → IsSchedule nodes t → row_texts row ≡ turns_words t → (x : Turns) × (schedule_line nodes row ≡ Ok x) × (x ≡ t)
-  schedule-again robin h e = choice-again (λ t. t) turns_words (IsSchedule nodes) (schedules nodes) why.UnknownSchedule row robin (codes "robin") [] e
+  schedule-again : (t : Turns) → IsSchedule nodes t → row_texts row ≡ turns_words t → (x : Turns) × (schedule_line nodes row ≡ Ok x)
+      × (x ≡ t)
+  schedule-again robin h e = choice-again (λ t. t) turns_words (IsSchedule nodes) (schedules nodes) why.UnknownSchedule row robin
+      (codes "robin") [] e
       (λ fault after a. made-again nothing-law (λ _. robin) (λ t. t) (λ _. robin) (λ a. refl) after tt tt a)
   schedule-again (random a b) h e =
       let parts = and_parts (is_number a) (is_number b) h in
-      choice-again (λ t. t) turns_words (IsSchedule nodes) (schedules nodes) why.UnknownSchedule row (random a b) (codes "random") (decimal a ∷ decimal b ∷ []) e
-      (λ fault after t. made-again (before-law (one-law any-law) (before-law (one-law any-law) nothing-law)) (λ x. random x.0 x.1.0) (λ t. t) (λ b. random b.0 b.1.0) (λ a. refl)
+      choice-again (λ t. t) turns_words (IsSchedule nodes) (schedules nodes) why.UnknownSchedule row (random a b) (codes "random")
+      (decimal a ∷ decimal b ∷ []) e
+      (λ fault after t. made-again (before-law (one-law any-law) (before-law (one-law any-law) nothing-law)) (λ x. random x.0 x.1.0)
+      (λ t. t) (λ b. random b.0 b.1.0) (λ a. refl)
       after (a, (b, tt)) (ltb-true a 4294967296 parts.0, (ltb-true b 4294967296 parts.1, tt)) t)
   schedule-again (listed actors) h e =
       let parts = and_parts (is_within 1 4096 (length actors)) (list_all (λ a. leb a nodes) actors) h in
       let count = is_within-true 1 4096 (length actors) parts.0 in
-      choice-again (λ t. t) turns_words (IsSchedule nodes) (schedules nodes) why.UnknownSchedule row (listed actors) (codes "list") (map decimal actors) e
-      (λ fault after t. made-again (listed-law (number-law 0 nodes few) 4096) listed (λ t. t) listed (λ a. refl) after actors (count.0, count.1, up_to_all nodes actors parts.1) t)
+      choice-again (λ t. t) turns_words (IsSchedule nodes) (schedules nodes) why.UnknownSchedule row (listed actors) (codes "list")
+      (map decimal actors) e
+      (λ fault after t. made-again (listed-law (number-law 0 nodes few) 4096) listed (λ t. t) listed (λ a. refl) after actors
+      (count.0, count.1, up_to_all nodes actors parts.1) t)
 
 pub schedule-law : (nodes : ℕ) → nodes < 2 ^ 32 → IsTail (schedule_line nodes) (λ t. t) turns_words (IsSchedule nodes)
 schedule-law nodes few = record { takes = schedule-takes nodes few; again = schedule-again nodes few }
@@ -155,20 +188,26 @@ pub record HeaderFits (h : Header) : Type 0 where
   pub budget : (1 ≤ h.budget) × (h.budget ≤ 65536)
   pub schedule : IsSchedule h.nodes h.schedule
 
-version-section : IsSection (line_at (codes "platinum") version_line) (λ x. x) (λ _. (codes "platinum" ∷ codes "1" ∷ []) ∷ []) (λ _. Unit {0}) (λ _. Unit {0})
+version-section : IsSection (line_at (codes "platinum") version_line) (λ x. x) (λ _. (codes "platinum" ∷ codes "1" ∷ []) ∷ [])
+    (λ _. Unit {0}) (λ _. Unit {0})
 version-section = line-law (codes "platinum") (single-law (exactly-law (codes "1")))
 
 number-section : (word : List ℕ) (low high : ℕ) → high < 2 ^ 32
-    → IsSection (line_at word (number_line low high)) (λ n. n) (λ n. (word ∷ decimal n ∷ []) ∷ []) (λ n. (low ≤ n) × (n ≤ high)) (λ _. Unit {0})
+    → IsSection (line_at word (number_line low high)) (λ n. n) (λ n. (word ∷ decimal n ∷ []) ∷ []) (λ n. (low ≤ n) × (n ≤ high))
+    (λ _. Unit {0})
 number-section word low high fits = line-law word (number_line-law low high fits)
 
-size-section : IsSection (line_at (codes "words") size_line) (λ n. n) (λ n. (codes "words" ∷ decimal n ∷ []) ∷ []) (λ n. is_page_size n ≡ true) (λ _. Unit {0})
+size-section : IsSection (line_at (codes "words") size_line) (λ n. n) (λ n. (codes "words" ∷ decimal n ∷ []) ∷ [])
+    (λ n. is_page_size n ≡ true) (λ _. Unit {0})
 size-section = line-law (codes "words") (single-law size-law)
 
-policy-section : IsSection (line_at (codes "policy") policy_line) (λ p. p) (λ p. (codes "policy" ∷ policy_kind_words p) ∷ []) IsPolicy (λ _. Unit {0})
+policy-section : IsSection (line_at (codes "policy") policy_line) (λ p. p) (λ p. (codes "policy" ∷ policy_kind_words p) ∷ []) IsPolicy
+    (λ _. Unit {0})
 policy-section = line-law (codes "policy") policy-law
 
-schedule-section : (nodes : ℕ) → nodes < 2 ^ 32 → IsSection (line_at (codes "schedule") (schedule_line nodes)) (λ t. t) (λ t. (codes "schedule" ∷ turns_words t) ∷ []) (IsSchedule nodes) (λ _. Unit {0})
+schedule-section : (nodes : ℕ) → nodes < 2 ^ 32 →
+    IsSection (line_at (codes "schedule") (schedule_line nodes)) (λ t. t) (λ t. (codes "schedule" ∷ turns_words t) ∷ []) (IsSchedule nodes)
+    (λ _. Unit {0})
 schedule-section nodes few = line-law (codes "schedule") (schedule-law nodes few)
 
 header-takes : (rest : Rest) (h : Header) (after : Rest) → header_at rest ≡ Ok (h, after) → Took rest after (header_lines h) × HeaderFits h
@@ -190,10 +229,13 @@ header-takes rest h after e =
     let t5 = policy-section.takes p.1 o.0 o.1 o-is in
     let t6 = (number-section (codes "budget") 1 65536 (omega arith)).takes o.1 b.0 b.1 b-is in
     let t7 = (schedule-section n.0 (omega (arith, t1.1))).takes b.1 s.0 s.1 s-is in
-    let all : ◌≡◌ {A = Header} (record { nodes = n.0; frames = f.0; words = w.0; pages = p.0; policy = o.0; budget = b.0; schedule = s.0 }) h = ok_first _ (h, after) e8 in
+    let all : ◌≡◌ {A = Header} (record { nodes = n.0; frames = f.0; words = w.0; pages = p.0; policy = o.0; budget = b.0; schedule = s.0 })
+    h = ok_first _ (h, after) e8 in
     let left : s.1 ≡ after = ok_second _ (h, after) e8 in
     rw (← all, ← left) (
-      took_then _ _ _ _ _ t0.0 (took_then _ _ _ _ _ t1.0 (took_then _ _ _ _ _ t2.0 (took_then _ _ _ _ _ t3.0 (took_then _ _ _ _ _ t4.0 (took_then _ _ _ _ _ t5.0 (took_then _ _ _ _ _ t6.0 t7.0)))))),
+      took_then _ _ _ _ _ t0.0 (took_then _ _ _ _ _ t1.0
+          (took_then _ _ _ _ _ t2.0 (took_then _ _ _ _ _ t3.0
+          (took_then _ _ _ _ _ t4.0 (took_then _ _ _ _ _ t5.0 (took_then _ _ _ _ _ t6.0 t7.0)))))),
       record { nodes = t1.1; frames = t2.1; words = t3.1; pages = t4.1; policy = t5.1; budget = t6.1; schedule = t7.1 },
     )))))))))
 

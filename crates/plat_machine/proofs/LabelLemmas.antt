@@ -1,5 +1,6 @@
 -- labels and the set of their names
-use Rattle.std.proofs.Common.{◌≡◌, ℕ, suc, zero, ◌+◌, ◌<◌, ◌≤◌, Bool, true, false, cond, ltb, not, List, [], ◌∷◌, ◌++◌, length, map, Option, Some, None, bytes_eq, refl, ap, sym, ◌∙◌, ◌||◌}
+use Rattle.std.proofs.Common.{◌≡◌, ℕ, suc, zero, ◌+◌, ◌<◌, ◌≤◌, Bool, true, false, cond, ltb, not, List, [], ◌∷◌, ◌++◌, length, map, Option}
+use Rattle.std.proofs.Common.{Some, None, bytes_eq, refl, ap, sym, ◌∙◌, ◌||◌}
 use Rattle.std.proofs.lemmas.List.{length-map, map-append, length_push}
 use Rattle.indexmap.specs.IndexSet.{insert_key}
 use Rattle.std.specs.Borrow.{Bor}
@@ -17,7 +18,8 @@ prefix-map p f (x ∷ xs) = ap (λ v. cond (p (f x)) (1 + v) 0) (prefix-map p f 
 position-map : {A B : Type 0} (p : B → Bool) (f : A → B) (xs : List A) → position p (map f xs) ≡ position (λ x. p (f x)) xs
 position-map p f xs =
     let n : position_or_len p (map f xs) ≡ position_or_len (λ x. p (f x)) xs = prefix-map (λ b. not (p b)) f xs in
-    ap (λ k. cond (ltb k (length (map f xs))) (Some k) None) n ∙ ap (λ l. cond (ltb (position_or_len (λ x. p (f x)) xs) l) (Some (position_or_len (λ x. p (f x)) xs)) None) (length-map xs f)
+    ap (λ k. cond (ltb k (length (map f xs))) (Some k) None) n
+    ∙ ap (λ l. cond (ltb (position_or_len (λ x. p (f x)) xs) l) (Some (position_or_len (λ x. p (f x)) xs)) None) (length-map xs f)
 
 -- the names of keys, and of labels
 abbrev pub key_names : List (Bor (List ℕ)) → List (List ℕ)
@@ -34,11 +36,13 @@ known_by_keys name keys labels e =
 pub place_by_keys : (name : List ℕ) (keys : List (Bor (List ℕ))) (labels : List Label) → key_names keys ≡ label_names labels
     → position (λ k. bytes_eq name k.now) keys ≡ position (λ l. bytes_eq name l.name) labels
 place_by_keys name keys labels e =
-    sym (position-map (bytes_eq name) (λ k. k.now) keys) ∙ ap (position (bytes_eq name)) e ∙ position-map (bytes_eq name) (λ l. l.name) labels
+    sym (position-map (bytes_eq name) (λ k. k.now) keys) ∙ ap (position (bytes_eq name)) e
+    ∙ position-map (bytes_eq name) (λ l. l.name) labels
 
 -- a new name is kept at the end of both
 pub named_push : (keys after : List (Bor (List ℕ))) (k : Bor (List ℕ)) (labels same labels' : List Label) (l : Label)
-    → key_names keys ≡ label_names labels → list_any (λ x. bytes_eq k.now x.name) labels ≡ false → after ≡ insert_key (λ a b. bytes_eq a.now b.now) keys k
+    → key_names keys ≡ label_names labels → list_any (λ x. bytes_eq k.now x.name) labels ≡ false →
+    after ≡ insert_key (λ a b. bytes_eq a.now b.now) keys k
     → l.name ≡ k.now → same ≡ labels → labels' ≡ same ++ l ∷ [] → key_names after ≡ label_names labels'
 named_push keys after k labels same labels' l named unknown inserted name_is same_is pushed =
     let new : list_any (λ x. bytes_eq k.now x.now) keys ≡ false = known_by_keys k.now keys labels named ∙ unknown in

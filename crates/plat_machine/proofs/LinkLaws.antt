@@ -1,5 +1,7 @@
 -- labels of instructions: a name becomes the number of the label that has it, and the other way
-use Rattle.std.proofs.Common.{◌≡◌, ℕ, zero, suc, ◌+◌, ◌<◌, ◌≤◌, Bool, true, false, not, ◌&&◌, ◌||◌, cond, ltb, List, [], ◌∷◌, ◌++◌, length, map, get_or, Option, Some, None, option_map, Result, Ok, Err, bytes_eq, refl, ap, sym, ◌∙◌, subst, arith, append_assoc, append-nil}
+use Rattle.std.proofs.Common.{◌≡◌, ℕ, zero, suc, ◌+◌, ◌<◌, ◌≤◌, Bool, true, false, not, ◌&&◌, ◌||◌, cond, ltb, List, [], ◌∷◌, ◌++◌, length}
+use Rattle.std.proofs.Common.{map, get_or, Option, Some, None, option_map, Result, Ok, Err, bytes_eq, refl, ap, sym, ◌∙◌, subst, arith}
+use Rattle.std.proofs.Common.{append_assoc, append-nil}
 use Rattle.std.specs.List.{AllByRecursion, list_all, list_any, position, position_or_len}
 use Rattle.std.proofs.lemmas.Bool.{and_parts, and_from, or_parts, not-true, ltb-true, lt-ltb, false≢true, false_from_ne_true}
 use Rattle.std.proofs.lemmas.List.Quantifiers.{position-Some}
@@ -20,7 +22,8 @@ use Rattle.plat_machine.proofs.InstrLaws.{goes, NameFits, Named, named, named_wo
 -- ---- by cases on instructions
 
 -- an instruction without a label has its words and limits whatever the labels are
-pub plain_same : (i : Instr) → goes i ≡ false → (names names' : ℕ → List ℕ) (n m : ℕ) → (instr_words names i ≡ instr_words names' i) × (is_instr n i ≡ is_instr m i)
+pub plain_same : (i : Instr) → goes i ≡ false → (names names' : ℕ → List ℕ) (n m : ℕ) → (instr_words names i ≡ instr_words names' i)
+    × (is_instr n i ≡ is_instr m i)
 plain_same (instr.Set d k) h names names' n m = (refl, refl)
 plain_same (instr.Move d a) h names names' n m = (refl, refl)
 plain_same (instr.Add d a b) h names names' n m = (refl, refl)
@@ -54,8 +57,13 @@ goes_same (instr.Fadd d s k i) h names number n inside fit = cc
 goes_same (instr.Switch s) h names number n inside fit = cc
 goes_same (instr.Print s) h names number n inside fit = cc
 goes_same (instr.Jump l) h names number n inside fit = (refl, lt-ltb number n inside)
-goes_same (instr.Zero a l) h names number n inside fit = (refl, and_from (is_register a) (ltb number n) (and_parts (is_register a) (ltb l 1) fit).0 (lt-ltb number n inside))
-goes_same (instr.Less a b l) h names number n inside fit = (refl, and_from (is_register a && is_register b) (ltb number n) (and_parts (is_register a && is_register b) (ltb l 1) fit).0 (lt-ltb number n inside))
+goes_same (instr.Zero a l) h names number n inside fit =
+    (refl, and_from (is_register a) (ltb number n) (and_parts (is_register a) (ltb l 1) fit).0 (lt-ltb number n inside))
+goes_same (instr.Less a b l) h names number n inside fit = (
+  refl,
+  and_from (is_register a && is_register b) (ltb number n) (and_parts (is_register a && is_register b) (ltb l 1) fit).0
+      (lt-ltb number n inside),
+)
 goes_same instr.Halt h names number n inside fit = cc
 
 -- the label that was taken out is put back
@@ -91,7 +99,8 @@ fits_some : (b : Bool) (n : List ℕ) → NameFits b (Some n) → b ≡ true
 fits_some true n h = refl
 fits_some false n h = absurd h
 
-linked_name : (labels : List Label) (name : List ℕ) (l : ℕ) → label_number labels name ≡ Some l → (l < length labels) × (label_name labels l ≡ name)
+linked_name : (labels : List Label) (name : List ℕ) (l : ℕ) → label_number labels name ≡ Some l →
+    (l < length labels) × (label_name labels l ≡ name)
 linked_name labels name l e =
     let t = position-Some (λ x. bytes_eq name x.name) labels l no_label e in
     (t.0, sym ((bytes_eq-Decides name (get_or labels l no_label).name).0 t.1))
@@ -117,14 +126,16 @@ linked-takes labels d i h e = by_target d.target h e where
   by_target (Some t) h e = by_number t (label_number labels t.name) refl h e
 
 -- names differ, so a name has one number
-unlike : (x : Label) (xs : List Label) (l : ℕ) → list_any (same_name x) xs ≡ false → l < length xs → bytes_eq (label_name xs l) x.name ≡ false
+unlike : (x : Label) (xs : List Label) (l : ℕ) → list_any (same_name x) xs ≡ false → l < length xs → bytes_eq (label_name xs l) x.name
+    ≡ false
 unlike x [] l h inside = absurd (omega arith)
 unlike x (y ∷ ys) zero h inside = turned x.name y.name (or_parts (same_name x y) (list_any (same_name x) ys) h).0 where
   turned : (a b : List ℕ) → bytes_eq a b ≡ false → bytes_eq b a ≡ false
   turned a b e = false_from_ne_true (bytes_eq b a) (λ t. false≢true (sym e ∙ (bytes_eq-Decides a b).1 (sym ((bytes_eq-Decides b a).0 t))))
 unlike x (y ∷ ys) (suc l) h inside = unlike x ys l (or_parts (same_name x y) (list_any (same_name x) ys) h).1 (omega arith)
 
-number_len : (labels : List Label) (l : ℕ) → all_differ same_name labels ≡ true → l < length labels → position_or_len (λ x. bytes_eq (label_name labels l) x.name) labels ≡ l
+number_len : (labels : List Label) (l : ℕ) → all_differ same_name labels ≡ true → l < length labels →
+    position_or_len (λ x. bytes_eq (label_name labels l) x.name) labels ≡ l
 number_len [] l d inside = absurd (omega arith)
 number_len (x ∷ xs) zero d inside = rw ((bytes_eq-Decides x.name x.name).1 refl) refl
 number_len (x ∷ xs) (suc l) d inside =
@@ -132,15 +143,18 @@ number_len (x ∷ xs) (suc l) d inside =
     let within : l < length xs = omega arith in
     rw (unlike x xs l (not-true _ parts.0) within, number_len xs l parts.1 within) (omega arith)
 
-label_number-at : (labels : List Label) (l : ℕ) → all_differ same_name labels ≡ true → l < length labels → label_number labels (label_name labels l) ≡ Some l
+label_number-at : (labels : List Label) (l : ℕ) → all_differ same_name labels ≡ true → l < length labels →
+    label_number labels (label_name labels l) ≡ Some l
 label_number-at labels l d inside = rw (number_len labels l d inside, lt-ltb l (length labels) inside) refl
 
-linked-again : (labels : List Label) (d : Draft) (i : Instr) → all_differ same_name labels ≡ true → is_instr (length labels) i ≡ true → named d ≡ named_by (label_name labels) i → linked labels d ≡ Ok i
+linked-again : (labels : List Label) (d : Draft) (i : Instr) → all_differ same_name labels ≡ true → is_instr (length labels) i ≡ true →
+    named d ≡ named_by (label_name labels) i → linked labels d ≡ Ok i
 linked-again labels d i apart h e = by_both d.target (label_of i) (puts_back (length labels) i h) (ap (λ p. p.1) e) where
   instr_is : d.instr ≡ with_label 0 i
   instr_is = ap (λ p. p.0) e
 
-  by_both : (o : Option Target) (p : Option ℕ) → PutsBack (length labels) i p → option_map (λ t. t.name) o ≡ option_map (label_name labels) p → linked_by labels d o ≡ Ok i
+  by_both : (o : Option Target) (p : Option ℕ) → PutsBack (length labels) i p →
+      option_map (λ t. t.name) o ≡ option_map (label_name labels) p → linked_by labels d o ≡ Ok i
   by_both None None back e = ap Ok (instr_is ∙ back)
   by_both None (Some l) back e = cc
   by_both (Some t) None back e = cc
@@ -150,16 +164,24 @@ linked-again labels d i apart h e = by_both d.target (label_of i) (puts_back (le
 
 -- ---- all of them
 
-pub code-takes : (labels : List Label) (seen : List Instr) (ds : List Draft) (code : List Instr) → AllByRecursion (λ d. NamedFits (named d)) ds → code_from labels seen ds ≡ Ok code
-    → (new : List Instr) × (code ≡ seen ++ new) × (map (λ i. instr_words (label_name labels) i) new ≡ map (λ d. named_words (named d)) ds) × (list_all (is_instr (length labels)) new ≡ true) × (length new ≡ length ds)
+pub code-takes : (labels : List Label) (seen : List Instr) (ds : List Draft) (code : List Instr) →
+    AllByRecursion (λ d. NamedFits (named d)) ds → code_from labels seen ds ≡ Ok code
+    → (new : List Instr) × (code ≡ seen ++ new) × (map (λ i. instr_words (label_name labels) i) new ≡ map (λ d. named_words (named d)) ds)
+    × (list_all (is_instr (length labels)) new ≡ true) × (length new ≡ length ds)
 unfolding code_from
 code-takes labels seen [] code h e = ([], sym (ok_is seen code e) ∙ sym (append-nil seen), refl, refl, refl)
 code-takes labels seen (d ∷ ds) code h e = taking (linked labels d) _ code e (λ i i-is e1.
     let one = linked-takes labels d i h.0 i-is in
-    let u = code-takes labels (seen ++ i ∷ []) ds code h.1 e1 in
-    (i ∷ u.0, u.1 ∙ append_assoc seen (i ∷ []) u.0, rw (one.0, u.2) refl, and_from (is_instr (length labels) i) (list_all (is_instr (length labels)) u.0) one.1 u.3, ap suc u.4))
+    let u = code-takes labels (seen ++ i ∷ []) ds code h.1 e1 in (
+      i ∷ u.0,
+      u.1 ∙ append_assoc seen (i ∷ []) u.0,
+      rw (one.0, u.2) refl,
+      and_from (is_instr (length labels) i) (list_all (is_instr (length labels)) u.0) one.1 u.3,
+      ap suc u.4,
+    ))
 
-pub code-again : (labels : List Label) (seen : List Instr) (ds : List Draft) (code : List Instr) → all_differ same_name labels ≡ true → list_all (is_instr (length labels)) code ≡ true
+pub code-again : (labels : List Label) (seen : List Instr) (ds : List Draft) (code : List Instr) → all_differ same_name labels ≡ true →
+    list_all (is_instr (length labels)) code ≡ true
     → map named ds ≡ map (named_by (label_name labels)) code → code_from labels seen ds ≡ Ok (seen ++ code)
 unfolding code_from
 code-again labels seen [] [] apart h e = ap Ok (sym (append-nil seen))

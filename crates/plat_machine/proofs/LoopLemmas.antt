@@ -1,5 +1,6 @@
 -- one step of the loops over a guest's lines, over its instructions, and over the guests
-use Rattle.std.proofs.Common.{◌≡◌, ℕ, suc, zero, ◌+◌, ◌-◌, ◌<◌, ◌≤◌, Bool, true, false, cond, List, [], ◌∷◌, ◌++◌, length, take, drop, get_or, map, Result, Ok, Err, refl, ap, sym, ◌∙◌, arith, ⊎_elim}
+use Rattle.std.proofs.Common.{◌≡◌, ℕ, suc, zero, ◌+◌, ◌-◌, ◌<◌, ◌≤◌, Bool, true, false, cond, List, [], ◌∷◌, ◌++◌, length, take, drop}
+use Rattle.std.proofs.Common.{get_or, map, Result, Ok, Err, refl, ap, sym, ◌∙◌, arith, ⊎_elim}
 use Rattle.std.proofs.lemmas.Bool.{cases_Bool}
 use Rattle.std.proofs.lemmas.List.{at_drop_more, at_drop_all}
 use Rattle.plat_grammar.specs.Lines.{Word}
@@ -14,6 +15,7 @@ use Rattle.plat_base.specs.declared.guests.GuestText.{GuestText}
 use Rattle.plat_text.proofs.FormLemmas.{row_taken}
 use Rattle.plat_machine.specs.Shown.{draft, drafts}
 use Rattle.plat_machine.specs.declared.instructions.Draft.{Draft as Read}
+use Rattle.plat_base.proofs.LimitLemmas.{programs_seen-push}
 
 -- ---- lines of a guest
 
@@ -27,29 +29,37 @@ module _ (drafts : List Draft) (labels : List Label) where
   unfolding body_from
   body-step rest = by_rows rest.rows where
     by_rows : (rows : List Row) → body_from rest.stop rest.given drafts labels rows
-        ≡ (word_ahead (record rest { rows = rows }) >>= λ w. cond (ends_guest w.bytes) (Ok ((drafts, labels), record rest { rows = rows })) (row_at (record rest { rows = rows }) >>= body_after))
+        ≡ (word_ahead (record rest { rows = rows }) >>= λ w. cond (ends_guest w.bytes) (Ok ((drafts, labels), record rest { rows = rows }))
+        (row_at (record rest { rows = rows }) >>= body_after))
     by_rows [] = refl
     by_rows (row ∷ rows) = by_words row.words where
       by_words : (ws : List Word) → body_from rest.stop rest.given drafts labels (record row { words = ws } ∷ rows)
-          ≡ (word_ahead (record rest { rows = record row { words = ws } ∷ rows }) >>= λ w. cond (ends_guest w.bytes) (Ok ((drafts, labels), record rest { rows = record row { words = ws } ∷ rows })) (row_at (record rest { rows = record row { words = ws } ∷ rows }) >>= body_after))
+          ≡ (word_ahead (record rest { rows = record row { words = ws } ∷ rows }) >>= λ w.
+          cond (ends_guest w.bytes) (Ok ((drafts, labels), record rest { rows = record row { words = ws } ∷ rows }))
+          (row_at (record rest { rows = record row { words = ws } ∷ rows }) >>= body_after))
       by_words [] = refl
       by_words (w ∷ ws) = refl
 
-  pub body-none : (rest : Rest) (fault : Refused) → word_ahead rest ≡ Err fault → body_from rest.stop rest.given drafts labels rest.rows ≡ Err fault
+  pub body-none : (rest : Rest) (fault : Refused) → word_ahead rest ≡ Err fault → body_from rest.stop rest.given drafts labels rest.rows
+      ≡ Err fault
   body-none rest fault e = body-step rest ∙ (rw e refl)
 
-  pub body-end : (rest : Rest) (w : Word) → word_ahead rest ≡ Ok w → ends_guest w.bytes ≡ true → body_from rest.stop rest.given drafts labels rest.rows ≡ Ok ((drafts, labels), rest)
+  pub body-end : (rest : Rest) (w : Word) → word_ahead rest ≡ Ok w → ends_guest w.bytes ≡ true →
+      body_from rest.stop rest.given drafts labels rest.rows ≡ Ok ((drafts, labels), rest)
   body-end rest w e t = body-step rest ∙ (rw (e, t) refl)
 
-  pub body-more : (rest : Rest) (w : Word) (row : Row) (after : Rest) (b : List Draft × List Label) → word_ahead rest ≡ Ok w → ends_guest w.bytes ≡ false → row_at rest ≡ Ok (row, after) → body_line drafts labels row ≡ Ok b
+  pub body-more : (rest : Rest) (w : Word) (row : Row) (after : Rest) (b : List Draft × List Label) → word_ahead rest ≡ Ok w →
+      ends_guest w.bytes ≡ false → row_at rest ≡ Ok (row, after) → body_line drafts labels row ≡ Ok b
       → body_from rest.stop rest.given drafts labels rest.rows ≡ body_from after.stop after.given b.0 b.1 after.rows
   body-more rest w row after b e t r l = body-step rest ∙ (rw (e, t, r, l) refl)
 
-  pub body-wrong : (rest : Rest) (w : Word) (row : Row) (after : Rest) (fault : Refused) → word_ahead rest ≡ Ok w → ends_guest w.bytes ≡ false → row_at rest ≡ Ok (row, after) → body_line drafts labels row ≡ Err fault
+  pub body-wrong : (rest : Rest) (w : Word) (row : Row) (after : Rest) (fault : Refused) → word_ahead rest ≡ Ok w →
+      ends_guest w.bytes ≡ false → row_at rest ≡ Ok (row, after) → body_line drafts labels row ≡ Err fault
       → body_from rest.stop rest.given drafts labels rest.rows ≡ Err fault
   body-wrong rest w row after fault e t r l = body-step rest ∙ (rw (e, t, r, l) refl)
 
-  pub body-no_row : (rest : Rest) (w : Word) (fault : Refused) → word_ahead rest ≡ Ok w → ends_guest w.bytes ≡ false → row_at rest ≡ Err fault
+  pub body-no_row : (rest : Rest) (w : Word) (fault : Refused) → word_ahead rest ≡ Ok w → ends_guest w.bytes ≡ false →
+      row_at rest ≡ Err fault
       → body_from rest.stop rest.given drafts labels rest.rows ≡ Err fault
   body-no_row rest w fault e t r = body-step rest ∙ (rw (e, t, r) refl)
 
@@ -66,7 +76,8 @@ module _ (labels : List Label) (seen : List Instr) (ds : List Read) (k : ℕ) wh
   unfolding code_from
   code-more d i inside e = at_drop_more (λ xs. code_from labels seen (drafts xs)) ds k d inside ∙ (rw e refl)
 
-  pub code-wrong : (d : Read) (fault : Refused) → k < length ds → linked labels (draft (get_or ds k d)) ≡ Err fault → code_from labels seen (drafts (drop k ds)) ≡ Err fault
+  pub code-wrong : (d : Read) (fault : Refused) → k < length ds → linked labels (draft (get_or ds k d)) ≡ Err fault →
+      code_from labels seen (drafts (drop k ds)) ≡ Err fault
   unfolding code_from
   code-wrong d fault inside e = at_drop_more (λ xs. code_from labels seen (drafts xs)) ds k d inside ∙ (rw e refl)
 
@@ -78,15 +89,12 @@ pub ruleset code_steps = (code-more, code-wrong, code-end)
 
 -- ---- guests
 
-pub programs_seen-push : (gs : List GuestText) (g : GuestText) → programs_seen (gs ++ g ∷ []) ≡ programs_seen gs ++ program_seen g ∷ []
-programs_seen-push [] g = refl
-programs_seen-push (x ∷ xs) g = ap (λ ps. program_seen x ∷ ps) (programs_seen-push xs g)
-
 module _ (n i : ℕ) (seen : List Program) (rest : Rest) (inside : i < n) where
   counted : n - i ≡ suc (n - (i + 1))
   counted = omega arith
 
-  pub guests-more : (g : Program) (after : Rest) → guest_at rest ≡ Ok (g, after) → guests_from (n - i) seen rest ≡ guests_from (n - (i + 1)) (seen ++ g ∷ []) after
+  pub guests-more : (g : Program) (after : Rest) → guest_at rest ≡ Ok (g, after) →
+      guests_from (n - i) seen rest ≡ guests_from (n - (i + 1)) (seen ++ g ∷ []) after
   unfolding guests_from
   guests-more g after e = rw (counted, e) refl
 

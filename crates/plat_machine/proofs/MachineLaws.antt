@@ -1,14 +1,19 @@
 -- a whole machine text: what is read is its canonical lines, and what has them is read
-use Rattle.std.proofs.Common.{◌≡◌, ℕ, zero, suc, ◌+◌, ◌-◌, ◌^◌, ◌<◌, ◌≤◌, Bool, true, false, ◌&&◌, cond, eqb, leb, List, [], ◌∷◌, ◌++◌, length, map, take, drop, Option, Some, None, Result, Ok, Err, codes, IsTrue, refl, ap, sym, ◌∙◌, subst, arith, append_assoc, append-nil, length-append}
+use Rattle.std.proofs.Common.{◌≡◌, ℕ, zero, suc, ◌+◌, ◌-◌, ◌^◌, ◌<◌, ◌≤◌, Bool, true, false, ◌&&◌, cond, eqb, leb, List, [], ◌∷◌, ◌++◌}
+use Rattle.std.proofs.Common.{length, map, take, drop, Option, Some, None, Result, Ok, Err, codes, IsTrue, refl, ap, sym, ◌∙◌, subst, arith}
+use Rattle.std.proofs.Common.{append_assoc, append-nil, length-append}
 use Rattle.std.specs.Fmt.{decimal}
 use Rattle.std.specs.List.{AllByRecursion, list_all, flat_map}
 use Rattle.std.proofs.lemmas.Bool.{and_parts, and_from, eqb-true, eq-eqb, not_from_false}
 use Rattle.std.proofs.lemmas.Bool.Decides.{nat_tests}
-use Rattle.plat_base.specs.Machine.{Machine, Program, Turns, robin, random, listed, limits, is_machine, is_within, is_page_size, is_policy, is_schedule, is_distance, is_entry, is_init, is_program, all_differ, same_nodes, same_place, same_word}
+use Rattle.plat_base.specs.Machine.{Machine, Program, Turns, robin, random, listed, limits, is_machine, is_within, is_page_size, is_policy}
+use Rattle.plat_base.specs.Machine.{is_schedule, is_distance, is_entry, is_init, is_program, all_differ, same_nodes, same_place, same_word}
 use Rattle.plat_base.specs.Text.{text_bytes}
-use Rattle.plat_base.specs.Canon.{Words, canon, canon_text, is_short, most_bytes, policy_words, schedule_words, distance_words, entry_words, init_words, instr_words, label_words, label_name, with_labels, program_lines}
+use Rattle.plat_base.specs.Canon.{Words, canon, canon_text, is_short, most_bytes, policy_words, schedule_words, distance_words, entry_words}
+use Rattle.plat_base.specs.Canon.{init_words, instr_words, label_words, label_name, with_labels, program_lines}
 use Rattle.plat_grammar.specs.Forms.{◌>>=◌, Row, Rest, row_at, word_at, one, exactly, read_as, nothing, refused}
-use Rattle.plat_grammar.specs.FirstFault.{Header, header_at, distances_at, entries_at, inits_at, guests_from, end_line, machine_with, front_at, machine_at}
+use Rattle.plat_grammar.specs.FirstFault.{Header, header_at, distances_at, entries_at, inits_at, guests_from, end_line, machine_with}
+use Rattle.plat_grammar.specs.FirstFault.{front_at, machine_at}
 use Rattle.plat_grammar.specs.Grammar.{IsMachine, has_words}
 use Rattle.plat_base.specs.declared.faults.Refused.{Refused}
 use Rattle.plat_base.specs.declared.faults.Why.TheVariants as why
@@ -23,18 +28,21 @@ use Rattle.plat_text.proofs.Results.{taking, then_ok, ok_is, ok_first, ok_second
 use Rattle.plat_text.proofs.WordLaws.{exactly-law, is_within-true, is_within-from}
 use Rattle.plat_text.proofs.FormLemmas.{word_taken, row_taken}
 use Rattle.plat_text.proofs.FormLaws.{row_texts, nothing-law, word_there, texts_taken, read_as-ok}
-use Rattle.plat_text.proofs.SectionLaws.{row_lists, rest_lists, list_size, lists_size, lists_size-append, Took, took_then, row_there, again_exactly}
+use Rattle.plat_text.proofs.SectionLaws.{row_lists, rest_lists, list_size, lists_size, lists_size-append, Took, took_then, row_there}
+use Rattle.plat_text.proofs.SectionLaws.{again_exactly}
 use Rattle.plat_text.proofs.RepeatedLaws.{Stops}
 use Rattle.plat_text.proofs.CanonLaws.{AreLines, text_bytes-size}
-use Rattle.plat_machine.proofs.HeaderLaws.{header_lines, HeaderFits, header-law, policy_kind_words, turns_words}
+use Rattle.plat_machine.proofs.HeaderLaws.{header_lines, HeaderFits, header-law, policy_kind_words, turns_words, page_size-small}
 use Rattle.plat_machine.proofs.ListLaws.{distances-law, entries-law, inits-law}
 use Rattle.plat_machine.proofs.BodyLaws.{EndsGuest, instr-key}
-use Rattle.plat_machine.proofs.GuestLaws.{GuestFits, all-bools, all-from, guests-law}
+use Rattle.plat_machine.proofs.GuestLaws.{GuestFits, all-bools, guests-law}
+use Rattle.plat_base.proofs.ListLemmas.{all-from}
 
 -- ---- the lines before `end`
 
 abbrev pub front_lines : Header → List Distance → List Entry → List Init → List Program → List Words
-front_lines h ds es is gs = header_lines h ++ (map distance_words ds ++ (map entry_words es ++ (map init_words is ++ flat_map program_lines gs)))
+front_lines h ds es is gs = header_lines h
+    ++ (map distance_words ds ++ (map entry_words es ++ (map init_words is ++ flat_map program_lines gs)))
 
 policy-words : (p : PolicyKind) → codes "policy" ∷ policy_kind_words p ≡ policy_words p
 policy-words policy.Place = refl
@@ -65,11 +73,17 @@ with_header h p s lines =
 four_parts : (a b c d e : List Words) → (a ++ (b ++ (c ++ d))) ++ e ≡ a ++ (b ++ (c ++ (d ++ e)))
 four_parts a b c d e = simp append_assoc
 
-pub canon-front : (h : Header) (ds : List Distance) (es : List Entry) (is : List Init) (gs : List Program) → front_lines h ds es is gs ++ last_line ≡ canon (machine_with h ds es is gs)
+pub canon-front : (h : Header) (ds : List Distance) (es : List Entry) (is : List Init) (gs : List Program) →
+    front_lines h ds es is gs ++ last_line ≡ canon (machine_with h ds es is gs)
 canon-front h ds es is gs =
-    ap (λ p. with_header h p (codes "schedule" ∷ turns_words h.schedule) ((map distance_words ds ++ (map entry_words es ++ (map init_words is ++ flat_map program_lines gs))) ++ last_line)) (policy-words h.policy)
-    ∙ ap (λ s. with_header h (policy_words h.policy) s ((map distance_words ds ++ (map entry_words es ++ (map init_words is ++ flat_map program_lines gs))) ++ last_line)) (schedule-words h.schedule)
-    ∙ ap (λ k. with_header h (policy_words h.policy) (schedule_words h.schedule) k) (four_parts (map distance_words ds) (map entry_words es) (map init_words is) (flat_map program_lines gs) last_line)
+    ap (λ p. with_header h p (codes "schedule" ∷ turns_words h.schedule)
+    ((map distance_words ds ++ (map entry_words es ++ (map init_words is ++ flat_map program_lines gs))) ++ last_line))
+    (policy-words h.policy)
+    ∙ ap (λ s. with_header h (policy_words h.policy) s
+    ((map distance_words ds ++ (map entry_words es ++ (map init_words is ++ flat_map program_lines gs))) ++ last_line))
+    (schedule-words h.schedule)
+    ∙ ap (λ k. with_header h (policy_words h.policy) (schedule_words h.schedule) k)
+    (four_parts (map distance_words ds) (map entry_words es) (map init_words is) (flat_map program_lines gs) last_line)
 
 -- ---- limits
 
@@ -177,17 +191,23 @@ machine-parts m h =
 -- ---- the lines before `end` are read
 
 abbrev pub header_of : Machine → Header
-header_of m = record { nodes = m.nodes; frames = m.frames; words = m.words; pages = m.pages; policy = m.policy; budget = m.budget; schedule = m.schedule }
+header_of m = record {
+  nodes = m.nodes;
+  frames = m.frames;
+  words = m.words;
+  pages = m.pages;
+  policy = m.policy;
+  budget = m.budget;
+  schedule = m.schedule;
+}
 
 -- the lines of a machine before `end`
 abbrev pub machine_lines : Machine → List Words
 machine_lines m = front_lines (header_of m) m.distances m.entries m.inits m.guests
 
-page_size_small : (n : ℕ) → is_page_size n ≡ true → n < 2 ^ 32
-page_size_small n e = grind (arith, nat_tests, e)
-
 sections-take : (rest r1 r2 r3 r4 r5 : Rest) (h : Header) (ds : List Distance) (es : List Entry) (is : List Init) (gs : List Program)
-    → header_at rest ≡ Ok (h, r1) → distances_at h.nodes r1 ≡ Ok (ds, r2) → entries_at h.pages r2 ≡ Ok (es, r3) → inits_at h.pages h.words r3 ≡ Ok (is, r4) → guests_from h.nodes [] r4 ≡ Ok (gs, r5)
+    → header_at rest ≡ Ok (h, r1) → distances_at h.nodes r1 ≡ Ok (ds, r2) → entries_at h.pages r2 ≡ Ok (es, r3) →
+    inits_at h.pages h.words r3 ≡ Ok (is, r4) → guests_from h.nodes [] r4 ≡ Ok (gs, r5)
     → Took rest r5 (front_lines h ds es is gs) × IsMachine (machine_with h ds es is gs)
 sections-take rest r1 r2 r3 r4 r5 h ds es is gs e0 e1 e2 e3 e4 =
     let t0 = header-law.takes rest h r1 e0 in
@@ -195,10 +215,12 @@ sections-take rest r1 r2 r3 r4 r5 h ds es is gs e0 e1 e2 e3 e4 =
     let pages : h.pages < 2 ^ 32 = omega (arith, t0.1.pages) in
     let t1 = (distances-law h.nodes few).takes r1 ds r2 e1 in
     let t2 = (entries-law h.pages pages).takes r2 es r3 e2 in
-    let t3 = (inits-law h.pages h.words pages (page_size_small h.words t0.1.words)).takes r3 is r4 e3 in
+    let t3 = (inits-law h.pages h.words pages (page_size-small h.words t0.1.words)).takes r3 is r4 e3 in
     let t4 = (guests-law h.nodes).takes r4 gs r5 e4 in (
       took_then rest r1 r5 (header_lines h) _ t0.0
-          (took_then r1 r2 r5 (map distance_words ds) _ t1.0 (took_then r2 r3 r5 (map entry_words es) _ t2.0 (took_then r3 r4 r5 (map init_words is) (flat_map program_lines gs) t3.0 t4.0))),
+          (took_then r1 r2 r5 (map distance_words ds) _ t1.0
+          (took_then r2 r3 r5 (map entry_words es) _ t2.0
+          (took_then r3 r4 r5 (map init_words is) (flat_map program_lines gs) t3.0 t4.0))),
       machine-from (machine_with h ds es is gs) (record {
         nodes = t0.1.nodes;
         frames = t0.1.frames;
@@ -218,7 +240,8 @@ sections-take rest r1 r2 r3 r4 r5 h ds es is gs e0 e1 e2 e3 e4 =
       }),
     )
 
-pub front-takes : (rest : Rest) (m : Machine) (after : Rest) → front_at rest ≡ Ok (m, after) → Took rest after (machine_lines m) × IsMachine m
+pub front-takes : (rest : Rest) (m : Machine) (after : Rest) → front_at rest ≡ Ok (m, after) → Took rest after (machine_lines m)
+    × IsMachine m
 unfolding front_at
 front-takes rest m after e =
     taking (header_at rest) _ _ e (λ h h-is e1.
@@ -235,7 +258,8 @@ stops_inits : (gs : List Program) (more : List Words) → Stops (codes "init") (
 stops_inits [] more = refl
 stops_inits (g ∷ gs) more = refl
 
-stops_entries : (is : List Init) (gs : List Program) (more : List Words) → Stops (codes "map") (map init_words is ++ (flat_map program_lines gs ++ (codes "end" ∷ []) ∷ more))
+stops_entries : (is : List Init) (gs : List Program) (more : List Words) →
+    Stops (codes "map") (map init_words is ++ (flat_map program_lines gs ++ (codes "end" ∷ []) ∷ more))
 stops_entries [] [] more = refl
 stops_entries [] (g ∷ gs) more = refl
 stops_entries (i ∷ is) gs more = refl
@@ -264,13 +288,16 @@ pub record EndTook (short : Bool) (rest : Rest) (next : ℕ) (after : Rest) : Ty
   pub words : row_texts last ≡ codes "end" ∷ []
   pub number : next ≡ last.line + 1
 
-pub end-takes : (short : Bool) (rest : Rest) (next : ℕ) (after : Rest) → end_line short rest ≡ Ok (next, after) → EndTook short rest next after
+pub end-takes : (short : Bool) (rest : Rest) (next : ℕ) (after : Rest) → end_line short rest ≡ Ok (next, after) →
+    EndTook short rest next after
 unfolding end_line
 end-takes short rest next after e =
-    taking (row_at rest) _ _ e (λ r r-is e1. taking (word_at r.0) _ _ e1 (λ w w-is e2. taking (read_as r.0.line w.0 (exactly (codes "end") w.0.bytes)) _ _ e2 (λ u u-is e3.
+    taking (row_at rest) _ _ e (λ r r-is e1.
+    taking (word_at r.0) _ _ e1 (λ w w-is e2. taking (read_as r.0.line w.0 (exactly (codes "end") w.0.bytes)) _ _ e2 (λ u u-is e3.
     let t = end_short short w.1 r.0.line w.0.column r.1 next after e3 in
     let row = row_taken rest r.0 r.1 r-is in
-    let word : w.0.bytes ≡ codes "end" = ((exactly-law (codes "end")).takes w.0.bytes u (read_as-ok r.0.line w.0 (exactly (codes "end") w.0.bytes) u u-is)).0 in
+    let word : w.0.bytes ≡ codes "end" =
+    ((exactly-law (codes "end")).takes w.0.bytes u (read_as-ok r.0.line w.0 (exactly (codes "end") w.0.bytes) u u-is)).0 in
     record {
       is_short = t.0;
       last = r.0;
@@ -280,7 +307,8 @@ end-takes short rest next after e =
       number = t.2;
     })))
 
-pub end-again : (rest : Rest) (more : List Words) → rest_lists rest ≡ (codes "end" ∷ []) ∷ more → (next : ℕ) × (after : Rest) × (end_line true rest ≡ Ok (next, after)) × (rest_lists after ≡ more)
+pub end-again : (rest : Rest) (more : List Words) → rest_lists rest ≡ (codes "end" ∷ []) ∷ more → (next : ℕ) × (after : Rest)
+    × (end_line true rest ≡ Ok (next, after)) × (rest_lists after ≡ more)
 unfolding end_line
 end-again rest more e =
     let r = row_there rest (codes "end" ∷ []) more e in
@@ -308,7 +336,10 @@ are_lines-append (l ∷ ls) ms h g = (h.0, are_lines-append ls ms h.1 g)
 
 code_lines : (names : ℕ → List ℕ) (code : List Instr) → AreLines (map (λ i. instr_words names i) code)
 code_lines names [] = tt
-code_lines names (i ∷ is) = (rw (instr-key names i).parts (some_words (instr-key names i).key (instr-key names i).others), code_lines names is)
+code_lines names (i ∷ is) = (
+  rw (instr-key names i).parts (some_words (instr-key names i).key (instr-key names i).others),
+  code_lines names is,
+)
 
 lines-take : (n : ℕ) (ls : List Words) → AreLines ls → AreLines (take n ls)
 lines-take zero ls h = tt
@@ -322,11 +353,14 @@ lines-drop (suc n) (l ∷ ls) h = lines-drop n ls h.1
 
 label_lines : (i : ℕ) (code : List Words) (labels : List Label) → AreLines code → AreLines (with_labels i code labels)
 label_lines i code [] h = h
-label_lines i code (l ∷ ls) h = are_lines-append (take (l.at - i) code) _ (lines-take (l.at - i) code h) (refl, label_lines l.at (drop (l.at - i) code) ls (lines-drop (l.at - i) code h))
+label_lines i code (l ∷ ls) h =
+    are_lines-append (take (l.at - i) code) _ (lines-take (l.at - i) code h)
+    (refl, label_lines l.at (drop (l.at - i) code) ls (lines-drop (l.at - i) code h))
 
 guest_lines : (gs : List Program) → AreLines (flat_map program_lines gs)
 guest_lines [] = tt
-guest_lines (g ∷ gs) = are_lines-append (program_lines g) _ (refl, label_lines 0 _ g.labels (code_lines (label_name g.labels) g.code)) (guest_lines gs)
+guest_lines (g ∷ gs) = are_lines-append (program_lines g) _ (refl, label_lines 0 _ g.labels (code_lines (label_name g.labels) g.code))
+    (guest_lines gs)
 
 distance_lines : (ds : List Distance) → AreLines (map distance_words ds)
 distance_lines [] = tt
@@ -340,9 +374,28 @@ init_lines : (is : List Init) → AreLines (map init_words is)
 init_lines [] = tt
 init_lines (i ∷ is) = (refl, init_lines is)
 
-front-are_lines : (h : Header) (ds : List Distance) (es : List Entry) (is : List Init) (gs : List Program) → AreLines (front_lines h ds es is gs)
+front-are_lines : (h : Header) (ds : List Distance) (es : List Entry) (is : List Init) (gs : List Program) →
+    AreLines (front_lines h ds es is gs)
 front-are_lines h ds es is gs =
-    are_lines-append (header_lines h) _ (refl, (refl, (refl, (refl, (refl, (some_words (codes "policy") (policy_kind_words h.policy), (refl, (some_words (codes "schedule") (turns_words h.schedule), tt))))))))
+    are_lines-append (header_lines h) _ (
+      refl,
+      (
+        refl,
+        (
+          refl,
+          (
+            refl,
+            (
+              refl,
+              (
+                some_words (codes "policy") (policy_kind_words h.policy),
+                (refl, (some_words (codes "schedule") (turns_words h.schedule), tt)),
+              ),
+            ),
+          ),
+        ),
+      ),
+    )
     (are_lines-append (map distance_words ds) _ (distance_lines ds) (are_lines-append (map entry_words es) _ (entry_lines es)
     (are_lines-append (map init_words is) _ (init_lines is) (guest_lines gs))))
 
@@ -351,11 +404,13 @@ pub front-size : (h : Header) (ds : List Distance) (es : List Entry) (is : List 
 unfolding canon_text
 front-size h ds es is gs =
     ap (λ k. length (text_bytes k)) (sym (canon-front h ds es is gs))
-    ∙ text_bytes-size (front_lines h ds es is gs ++ last_line) (are_lines-append (front_lines h ds es is gs) last_line (front-are_lines h ds es is gs) (refl, tt))
+    ∙ text_bytes-size (front_lines h ds es is gs ++ last_line)
+    (are_lines-append (front_lines h ds es is gs) last_line (front-are_lines h ds es is gs) (refl, tt))
     ∙ end_size (front_lines h ds es is gs)
 
 -- what the rows up to `end` have given says whether the canonical text is short
-pub front-short : (rest : Rest) (m : Machine) (after : Rest) → front_at rest ≡ Ok (m, after) → (rest.given ≤ after.given) × (leb (after.given - rest.given + 4) 1048576 ≡ is_short m)
+pub front-short : (rest : Rest) (m : Machine) (after : Rest) → front_at rest ≡ Ok (m, after) → (rest.given ≤ after.given)
+    × (leb (after.given - rest.given + 4) 1048576 ≡ is_short m)
 unfolding is_short
 front-short rest m after e =
     let t = (front-takes rest m after e).0 in
@@ -376,7 +431,8 @@ pub record MachineTook (rest after : Rest) (m : Machine) (next : ℕ) : Type 0 w
   pub machine : IsMachine m
   pub short : IsTrue (is_short m)
 
-pub machine-takes : (rest : Rest) (m : Machine) (next : ℕ) (after : Rest) → machine_at rest ≡ Ok ((m, next), after) → MachineTook rest after m next
+pub machine-takes : (rest : Rest) (m : Machine) (next : ℕ) (after : Rest) → machine_at rest ≡ Ok ((m, next), after) →
+    MachineTook rest after m next
 unfolding machine_at
 machine-takes rest m next after e =
     taking (front_at rest) _ _ e (λ f f-is e1. taking (end_line (is_short f.0) f.1) _ _ e1 (λ n n-is e2.
@@ -413,12 +469,24 @@ machine-again rest m more fits short e =
     let is = map init_words m.inits in
     let gs = flat_map program_lines m.guests in
     let lines : rest_lists rest ≡ header_lines h ++ (ds ++ (es ++ (is ++ (gs ++ (last_line ++ more))))) =
-    e ∙ ap (λ k. k ++ more) (sym (canon-front h m.distances m.entries m.inits m.guests)) ∙ six_parts (header_lines h) ds es is gs last_line more in
+    e ∙ ap (λ k. k ++ more) (sym (canon-front h m.distances m.entries m.inits m.guests))
+    ∙ six_parts (header_lines h) ds es is gs last_line more in
     let t0 = again_exactly header-law rest h (ds ++ (es ++ (is ++ (gs ++ (last_line ++ more)))))
-    (record { nodes = p.nodes; frames = p.frames; words = p.words; pages = p.pages; policy = p.policy; budget = p.budget; schedule = p.schedule }) tt lines in
-    let t1 = again_exactly (distances-law m.nodes few) t0.0 m.distances (es ++ (is ++ (gs ++ (last_line ++ more)))) (p.distances, p.distances_differ) (stops_distances m.entries m.inits m.guests more) t0.2 in
-    let t2 = again_exactly (entries-law m.pages pages) t1.0 m.entries (is ++ (gs ++ (last_line ++ more))) (p.entries, p.entries_differ) (stops_entries m.inits m.guests more) t1.2 in
-    let t3 = again_exactly (inits-law m.pages m.words pages (page_size_small m.words p.words)) t2.0 m.inits (gs ++ (last_line ++ more)) (p.inits, p.inits_differ) (stops_inits m.guests more) t2.2 in
+    (record {
+      nodes = p.nodes;
+      frames = p.frames;
+      words = p.words;
+      pages = p.pages;
+      policy = p.policy;
+      budget = p.budget;
+      schedule = p.schedule;
+    }) tt lines in
+    let t1 = again_exactly (distances-law m.nodes few) t0.0 m.distances (es ++ (is ++ (gs ++ (last_line ++ more))))
+    (p.distances, p.distances_differ) (stops_distances m.entries m.inits m.guests more) t0.2 in
+    let t2 = again_exactly (entries-law m.pages pages) t1.0 m.entries (is ++ (gs ++ (last_line ++ more))) (p.entries, p.entries_differ)
+    (stops_entries m.inits m.guests more) t1.2 in
+    let t3 = again_exactly (inits-law m.pages m.words pages (page_size-small m.words p.words)) t2.0 m.inits (gs ++ (last_line ++ more))
+    (p.inits, p.inits_differ) (stops_inits m.guests more) t2.2 in
     let t4 = again_exactly (guests-law m.nodes) t3.0 m.guests (last_line ++ more) (p.count, p.guests) refl t3.2 in
     let t5 = end-again t4.0 more t4.2 in (
       t5.0,
@@ -435,7 +503,8 @@ machine-again rest m more fits short e =
 
 -- ---- the parts of a machine text, as code reads them
 
-module _ (rest after : Rest) (m : Machine) (start given : ℕ) (started : start ≡ rest.given) (gave : given ≡ after.given) (read : front_at rest ≡ Ok (m, after)) where
+module _ (rest after : Rest) (m : Machine) (start given : ℕ) (started : start ≡ rest.given) (gave : given ≡ after.given)
+    (read : front_at rest ≡ Ok (m, after)) where
   pub gave_more : start ≤ given
   gave_more = omega (arith, started, gave, (front-short rest m after read).0)
 
@@ -446,7 +515,8 @@ module _ (rest after : Rest) (m : Machine) (start given : ℕ) (started : start 
   unfolding machine_at
   machine-wrong fault e = then_ok (front_at rest) _ (m, after) _ read (rw (← short_is, e) refl)
 
-  pub machine-right : (next : ℕ) (left : Rest) → end_line (leb (given - start + 4) 1048576) after ≡ Ok (next, left) → machine_at rest ≡ Ok ((m, next), left)
+  pub machine-right : (next : ℕ) (left : Rest) → end_line (leb (given - start + 4) 1048576) after ≡ Ok (next, left) →
+      machine_at rest ≡ Ok ((m, next), left)
   unfolding machine_at
   machine-right next left e = then_ok (front_at rest) _ (m, after) _ read (rw (← short_is, e) refl)
 

@@ -1,5 +1,6 @@
 -- a guest's lines as one list of instructions and labels
-use Rattle.std.proofs.Common.{◌≡◌, ℕ, zero, suc, ◌+◌, ◌-◌, ◌<◌, ◌≤◌, Bool, true, false, ◌&&◌, min, List, [], ◌∷◌, ◌++◌, length, map, take, drop, refl, ap, sym, ◌∙◌, subst, arith, append_assoc, append-nil, length-append, length-take, length-drop}
+use Rattle.std.proofs.Common.{◌≡◌, ℕ, zero, suc, ◌+◌, ◌-◌, ◌<◌, ◌≤◌, Bool, true, false, ◌&&◌, min, List, [], ◌∷◌, ◌++◌, length, map, take}
+use Rattle.std.proofs.Common.{drop, refl, ap, sym, ◌∙◌, subst, arith, append_assoc, append-nil, length-append, length-take, length-drop}
 use Rattle.std.proofs.lemmas.Bool.{and_parts, and_from}
 use Rattle.std.proofs.lemmas.List.{take-append-drop}
 use Rattle.plat_base.specs.Machine.{is_within, labels_rise}
@@ -21,13 +22,15 @@ begins_sooner : (i : ℕ) (ls : List Label) → BeginsFrom (i + 1) ls → Begins
 begins_sooner i [] h = tt
 begins_sooner i (l ∷ ls) h = omega (arith, h)
 
-with_labels-code : (i : ℕ) (x : Words) (code : List Words) (ls : List Label) → BeginsFrom (i + 1) ls → with_labels i (x ∷ code) ls ≡ x ∷ with_labels (i + 1) code ls
+with_labels-code : (i : ℕ) (x : Words) (code : List Words) (ls : List Label) → BeginsFrom (i + 1) ls →
+    with_labels i (x ∷ code) ls ≡ x ∷ with_labels (i + 1) code ls
 with_labels-code i x code [] h = refl
 with_labels-code i x code (l ∷ ls) h =
     let gap : l.at - i ≡ suc (l.at - (i + 1)) = omega (arith, h) in
     rw gap refl
 
-with_labels-place : (i : ℕ) (code : List Words) (l : Label) (ls : List Label) → l.at ≡ i → with_labels i code (l ∷ ls) ≡ label_words l ∷ with_labels i code ls
+with_labels-place : (i : ℕ) (code : List Words) (l : Label) (ls : List Label) → l.at ≡ i →
+    with_labels i code (l ∷ ls) ≡ label_words l ∷ with_labels i code ls
 with_labels-place i code l ls h =
     let gap : l.at - i ≡ 0 = omega (arith, h) in
     rw gap (ap (λ k. label_words l ∷ with_labels k code ls) h)
@@ -59,18 +62,22 @@ module _ {C : Type 0} where
   places-begin i (place l ∷ ms) h = omega (arith, h.0)
 
   -- the canonical lines of instructions and labels
-  pub with_labels-marks : (words : C → Words) (i : ℕ) (ms : List (Mark C)) → AreInOrder i ms → with_labels i (map words (codes_of ms)) (places_of ms) ≡ map (mark_words words) ms
+  pub with_labels-marks : (words : C → Words) (i : ℕ) (ms : List (Mark C)) → AreInOrder i ms →
+      with_labels i (map words (codes_of ms)) (places_of ms) ≡ map (mark_words words) ms
   with_labels-marks words i [] h = refl
   with_labels-marks words i (does c ∷ ms) h =
-      with_labels-code i (words c) (map words (codes_of ms)) (places_of ms) (places-begin (i + 1) ms h) ∙ ap (λ k. words c ∷ k) (with_labels-marks words (i + 1) ms h)
+      with_labels-code i (words c) (map words (codes_of ms)) (places_of ms) (places-begin (i + 1) ms h)
+      ∙ ap (λ k. words c ∷ k) (with_labels-marks words (i + 1) ms h)
   with_labels-marks words i (place l ∷ ms) h =
       with_labels-place i (map words (codes_of ms)) l (places_of ms) h.0 ∙ ap (λ k. label_words l ∷ k) (with_labels-marks words i ms h.1)
 
-  pub rise-marks : (low i high : ℕ) (ms : List (Mark C)) → AreInOrder i ms → low ≤ i → i + length (codes_of ms) ≤ high → labels_rise low high (places_of ms) ≡ true
+  pub rise-marks : (low i high : ℕ) (ms : List (Mark C)) → AreInOrder i ms → low ≤ i → i + length (codes_of ms) ≤ high →
+      labels_rise low high (places_of ms) ≡ true
   rise-marks low i high [] h a b = refl
   rise-marks low i high (does c ∷ ms) h a b = rise-marks low (i + 1) high ms h (omega (arith, a)) (omega (arith, b))
   rise-marks low i high (place l ∷ ms) h a b =
-      and_from (is_within low high l.at) (labels_rise l.at high (places_of ms)) (is_within-from low high l.at (omega (arith, h.0, a)) (omega (arith, h.0, b)))
+      and_from (is_within low high l.at) (labels_rise l.at high (places_of ms))
+      (is_within-from low high l.at (omega (arith, h.0, a)) (omega (arith, h.0, b)))
       (rise-marks l.at i high ms h.1 (omega (arith, h.0)) b)
 
   -- ---- the lines of instructions and labels
@@ -97,7 +104,8 @@ module _ {C : Type 0} where
 
   in_order-does : (i : ℕ) (xs : List C) (ms : List (Mark C)) → AreInOrder (i + length xs) ms → AreInOrder i (map does xs ++ ms)
   in_order-does i [] ms h = let e : i + 0 ≡ i = omega arith in subst (λ k. AreInOrder k ms) e h
-  in_order-does i (x ∷ xs) ms h = let e : i + suc (length xs) ≡ i + 1 + length xs = omega arith in in_order-does (i + 1) xs ms (subst (λ k. AreInOrder k ms) e h)
+  in_order-does i (x ∷ xs) ms h = let e : i + suc (length xs) ≡ i + 1 + length xs = omega arith in
+      in_order-does (i + 1) xs ms (subst (λ k. AreInOrder k ms) e h)
 
   in_order-all : (i : ℕ) (xs : List C) → AreInOrder i (map does xs)
   in_order-all i [] = tt
@@ -112,9 +120,11 @@ module _ {C : Type 0} where
   pub places-marks : (i : ℕ) (code : List C) (ls : List Label) → places_of (marks_of i code ls) ≡ ls
   places-marks i code [] = places-all code
   places-marks i code (l ∷ ls) =
-      places-does (take (l.at - i) code) (place l ∷ marks_of l.at (drop (l.at - i) code) ls) ∙ ap (λ k. l ∷ k) (places-marks l.at (drop (l.at - i) code) ls)
+      places-does (take (l.at - i) code) (place l ∷ marks_of l.at (drop (l.at - i) code) ls)
+      ∙ ap (λ k. l ∷ k) (places-marks l.at (drop (l.at - i) code) ls)
 
-  pub in_order-marks : (i : ℕ) (code : List C) (ls : List Label) → labels_rise i (i + length code) ls ≡ true → AreInOrder i (marks_of i code ls)
+  pub in_order-marks : (i : ℕ) (code : List C) (ls : List Label) → labels_rise i (i + length code) ls ≡ true →
+      AreInOrder i (marks_of i code ls)
   in_order-marks i code [] h = in_order-all i code
   in_order-marks i code (l ∷ ls) h =
       let parts = and_parts (is_within i (i + length code) l.at) (labels_rise l.at (i + length code) ls) h in

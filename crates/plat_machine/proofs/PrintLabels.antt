@@ -1,5 +1,6 @@
 -- labels that are written among instructions
-use Rattle.std.proofs.Common.{add-one, ◌≡◌, ℕ, zero, suc, ◌+◌, ◌-◌, ◌<◌, ◌≤◌, List, [], ◌∷◌, ◌++◌, length, get_or, take, drop, map, IsTrue, refl, sym, ap, ◌∙◌, arith, append_assoc}
+use Rattle.std.proofs.Common.{add-one, ◌≡◌, ℕ, zero, suc, ◌+◌, ◌-◌, ◌<◌, ◌≤◌, List, [], ◌∷◌, ◌++◌, length, get_or, take, drop, map, IsTrue}
+use Rattle.std.proofs.Common.{refl, sym, ap, ◌∙◌, arith, append_assoc}
 use Rattle.std.proofs.Math.Nat.{sub_self}
 use Rattle.std.proofs.lemmas.Bool.Decides.{nat_tests}
 use Rattle.std.proofs.lemmas.List.{drop-drop, take-map, drop-map, drop_more, drop_all, take_all, length-drop}
@@ -20,22 +21,26 @@ last_at at (l ∷ ls) = last_at l.at ls
 
 -- ---- positions rise
 
-pub label-rises : (labels : List Label) (at high i : ℕ) (other : Label) → IsTrue (labels_rise at high labels) → i < length labels → (last_at at (take i labels) ≤ (get_or labels i other).at) × ((get_or labels i other).at ≤ high)
+pub label-rises : (labels : List Label) (at high i : ℕ) (other : Label) → IsTrue (labels_rise at high labels) → i < length labels →
+    (last_at at (take i labels) ≤ (get_or labels i other).at) × ((get_or labels i other).at ≤ high)
 label-rises [] at high i other h k = absurd (omega arith)
 label-rises (l ∷ ls) at high zero other h k = grind (arith, nat_tests)
 label-rises (l ∷ ls) at high (suc i) other h k = grind (arith, nat_tests, label-rises ls l.at high i other)
 
-pub last_at-rises : (labels : List Label) (at high i : ℕ) → IsTrue (labels_rise at high labels) → at ≤ high → (at ≤ last_at at (take i labels)) × (last_at at (take i labels) ≤ high)
+pub last_at-rises : (labels : List Label) (at high i : ℕ) → IsTrue (labels_rise at high labels) → at ≤ high →
+    (at ≤ last_at at (take i labels)) × (last_at at (take i labels) ≤ high)
 last_at-rises labels at high zero h k = (omega arith, k)
 last_at-rises [] at high (suc i) h k = (omega arith, k)
 last_at-rises (l ∷ ls) at high (suc i) h k = grind (arith, nat_tests, last_at-rises ls l.at high i)
 
-last_at-next : (labels : List Label) (at i : ℕ) (other : Label) → i < length labels → last_at at (take (suc i) labels) ≡ (get_or labels i other).at
+last_at-next : (labels : List Label) (at i : ℕ) (other : Label) → i < length labels →
+    last_at at (take (suc i) labels) ≡ (get_or labels i other).at
 last_at-next [] at i other k = absurd (omega arith)
 last_at-next (l ∷ ls) at zero other k = refl
 last_at-next (l ∷ ls) at (suc i) other k = last_at-next ls l.at i other (omega arith)
 
-pub last_at-more : (labels : List Label) (at i : ℕ) (other : Label) → i < length labels → last_at at (take (i + 1) labels) ≡ (get_or labels i other).at
+pub last_at-more : (labels : List Label) (at i : ℕ) (other : Label) → i < length labels →
+    last_at at (take (i + 1) labels) ≡ (get_or labels i other).at
 last_at-more labels at i other k = rw add-one (last_at-next labels at i other k)
 
 -- ---- the lines of some labels, and what is left
@@ -48,9 +53,11 @@ abbrev up_to : ℕ → List Words → (p : ℕ) → Label → List Words
 up_to at code p l = take (l.at - p) (drop (p - at) code)
 
 lines_to-next :
-    (labels : List Label) (at high : ℕ) (code : List Words) (i : ℕ) (other : Label) → IsTrue (labels_rise at high labels) → at ≤ high → i < length labels
+    (labels : List Label) (at high : ℕ) (code : List Words) (i : ℕ) (other : Label) → IsTrue (labels_rise at high labels) → at ≤ high →
+    i < length labels
     → lines_to at code (take (suc i) labels)
-    ≡ lines_to at code (take i labels) ++ (up_to at code (last_at at (take i labels)) (get_or labels i other) ++ label_words (get_or labels i other) ∷ [])
+    ≡ lines_to at code (take i labels)
+    ++ (up_to at code (last_at at (take i labels)) (get_or labels i other) ++ label_words (get_or labels i other) ∷ [])
 lines_to-next [] at high code i other h a k = absurd (omega arith)
 lines_to-next (l ∷ ls) at high code zero other h a k = rw (sub_self at) refl
 lines_to-next (l ∷ ls) at high code (suc i) other h a k =
@@ -67,7 +74,8 @@ lines_to-next (l ∷ ls) at high code (suc i) other h a k =
 with_labels-cut :
     (labels : List Label) (at high : ℕ) (code : List Words) (i : ℕ) → IsTrue (labels_rise at high labels) → at ≤ high
     → with_labels at code labels
-    ≡ lines_to at code (take i labels) ++ with_labels (last_at at (take i labels)) (drop (last_at at (take i labels) - at) code) (drop i labels)
+    ≡ lines_to at code (take i labels) ++ with_labels (last_at at (take i labels)) (drop (last_at at (take i labels) - at) code)
+    (drop i labels)
 with_labels-cut labels at high code zero h a = rw (sub_self at) refl
 with_labels-cut [] at high code (suc i) h a = rw (sub_self at) refl
 with_labels-cut (l ∷ ls) at high code (suc i) h a =
@@ -106,7 +114,8 @@ pub lines_to-more :
     → lines_to 0 (map f code) (take (i + 1) labels)
     ≡ lines_to 0 (map f code) (take i labels) ++ (between_lines f code at l.at ++ label_words l ∷ [])
 lines_to-more f code {labels} {i} {at} {l} h =
-    rw (add-one, h.place, h.item, ← between_lines-is) (lines_to-next labels 0 (length code) (map f code) i l h.rising (omega arith) h.within)
+    rw (add-one, h.place, h.item, ← between_lines-is)
+    (lines_to-next labels 0 (length code) (map f code) i l h.rising (omega arith) h.within)
 
 -- the lines after the line of label l
 abbrev pub lines_after : (f : Instr → Words) (code : List Instr) (labels : List Label) (i : ℕ) (l : Label) → List Words
@@ -118,16 +127,19 @@ pub with_labels-here :
     → with_labels 0 (map f code) labels
     ≡ lines_to 0 (map f code) (take i labels) ++ (between_lines f code at l.at ++ label_words l ∷ lines_after f code labels i l)
 with_labels-here f code {labels} {i} {at} {l} h =
-    let next : drop i labels ≡ l ∷ drop (i + 1) labels = drop_more labels i l h.within ∙ ap (λ (x : Label). x ∷ drop (i + 1) labels) (sym h.item) in
+    let next : drop i labels ≡ l ∷ drop (i + 1) labels = drop_more labels i l h.within
+    ∙ ap (λ (x : Label). x ∷ drop (i + 1) labels) (sym h.item) in
     rw (h.place, ← between_lines-is) (rw next at (with_labels-cut labels 0 (length code) (map f code) i h.rising (omega arith)))
 
 pub with_labels-end :
-    (f : Instr → Words) (code : List Instr) (labels : List Label) (i at : ℕ) → IsTrue (labels_rise 0 (length code) labels) → length labels ≤ i
+    (f : Instr → Words) (code : List Instr) (labels : List Label) (i at : ℕ) → IsTrue (labels_rise 0 (length code) labels) →
+    length labels ≤ i
     → at ≡ last_at 0 (take i labels)
     → with_labels 0 (map f code) labels ≡ lines_to 0 (map f code) (take i labels) ++ between_lines f code at (length code)
 with_labels-end f code labels i at h k e =
     let cut = with_labels-cut labels 0 (length code) (map f code) i h (omega arith) in
-    let whole : take (length code - at) (drop at code) ≡ drop at code = take_all (length code - at) (drop at code) (omega (arith, length-drop at code)) in
+    let whole : take (length code - at) (drop at code) ≡ drop at code =
+    take_all (length code - at) (drop at code) (omega (arith, length-drop at code)) in
     let none : drop i labels ≡ [] = drop_all i labels k in
     let same : at - 0 ≡ at = omega arith in
     rw whole (rw (none, ← e, same, drop-map) at cut)

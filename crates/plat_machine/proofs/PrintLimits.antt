@@ -13,7 +13,8 @@ use Rattle.plat_base.specs.declared.guests.Label.{Label}
 pub guests_within : (cfg : Config) → IsTrue (list_all is_program (programs_seen cfg.guests.items))
 guests_within cfg = (config_limits cfg).guests
 
-pub guest_within : (guests : List GuestText) (i : ℕ) (other : GuestText) → IsTrue (list_all is_program (programs_seen guests)) → i < length guests → IsTrue (is_program (program_seen (get_or guests i other)))
+pub guest_within : (guests : List GuestText) (i : ℕ) (other : GuestText) → IsTrue (list_all is_program (programs_seen guests)) →
+    i < length guests → IsTrue (is_program (program_seen (get_or guests i other)))
 guest_within [] i other h k = absurd (omega arith)
 guest_within (g ∷ gs) zero other h k = grind arith
 guest_within (g ∷ gs) (suc i) other h k = grind (arith, guest_within gs i other)
@@ -29,10 +30,12 @@ all-drop test (suc n) [] h = refl
 all-drop test (suc n) (x ∷ xs) h = all-drop test n xs (grind arith)
 
 -- what holds of all holds of those of a part
-pub all_between : {T : Type 0} (test : T → Bool) (m n : ℕ) (xs : List T) → IsTrue (list_all test xs) → IsTrue (list_all test (take m (drop n xs)))
+pub all_between : {T : Type 0} (test : T → Bool) (m n : ℕ) (xs : List T) → IsTrue (list_all test xs) →
+    IsTrue (list_all test (take m (drop n xs)))
 all_between test m n xs h = all-take test m (drop n xs) (all-drop test n xs h)
 
-pub program_parts : (p : Program) → IsTrue (is_program p) → IsTrue (list_all (is_instr (length p.labels)) p.code) × IsTrue (labels_rise 0 (length p.code) p.labels)
+pub program_parts : (p : Program) → IsTrue (is_program p) → IsTrue (list_all (is_instr (length p.labels)) p.code)
+    × IsTrue (labels_rise 0 (length p.code) p.labels)
 program_parts p h = grind arith
 
 pub name_at : (labels : List Label) (i : ℕ) (other : Label) → i < length labels → (get_or labels i other).name ≡ label_name labels i

@@ -1,36 +1,30 @@
 -- lines that are written one after another by one function
-use Rattle.std.proofs.Common.{◌≡◌, ℕ, ◌≤◌, ◌||◌, Bool, true, false, List, [], ◌∷◌, ◌++◌, Option, Result, Ok, Err, inl, inr, refl, sym, ap, ◌∙◌, arith}
+use Rattle.std.proofs.Common.{◌≡◌, ℕ, ◌≤◌, ◌||◌, Bool, true, false, List, [], ◌∷◌, ◌++◌, Option, Result, Ok, Err, inl, inr, refl, sym, ap}
+use Rattle.std.proofs.Common.{◌∙◌, arith}
 use Rattle.std.specs.Result.{IsErr}
+use Rattle.std.proofs.lemmas.Bool.{or_left, or_right}
 use Rattle.plat_base.specs.Canon.{Words}
 use Rattle.plat_io.specs.Streams.{added, HasRisen}
 use Rattle.plat_io.specs.Adds.{is_part}
 use Rattle.plat_io.specs.Lines.{text, AddsLines}
 use Rattle.plat_io.specs.declared.sinks.Sink.{Ghosts}
 use Rattle.plat_io.proofs.LineLemmas.{added_line, added_lines, added_no_line, is_part_line, is_part_lines}
+use Rattle.plat_io.proofs.Pieces.{HasRisen-later}
 
 -- ---- lines in turn
 
-pub added_lines_left : (held : Option (List ℕ)) (l m : Words) (ls : List Words) → added held (text (l ∷ m ∷ ls)) ≡ added (added held (text (l ∷ []))) (text (m ∷ ls))
+pub added_lines_left : (held : Option (List ℕ)) (l m : Words) (ls : List Words) →
+    added held (text (l ∷ m ∷ ls)) ≡ added (added held (text (l ∷ []))) (text (m ∷ ls))
 added_lines_left held l m ls = added_line held l (m ∷ ls)
 
-pub is_part_lines_left : (held : Option (List ℕ)) (l m : Words) (ls : List Words) (now : Option (List ℕ)) → is_part held (text (l ∷ m ∷ ls)) now ≡ (is_part held (text (l ∷ [])) now || is_part (added held (text (l ∷ []))) (text (m ∷ ls)) now)
+pub is_part_lines_left : (held : Option (List ℕ)) (l m : Words) (ls : List Words) (now : Option (List ℕ)) →
+    is_part held (text (l ∷ m ∷ ls)) now ≡ (is_part held (text (l ∷ [])) now || is_part (added held (text (l ∷ []))) (text (m ∷ ls)) now)
 is_part_lines_left held l m ls now = is_part_line held l (m ∷ ls) now
 
 -- for a function that writes several lines: only where more than one line is left, since each `||` costs a split
 pub ruleset lines_in_turn = (added_lines_left, is_part_lines_left)
 
 -- ---- two writings, one after the other
-
-or-left : (a b : Bool) → a ≡ true → (a || b) ≡ true
-or-left a b h = rw h refl
-
-or-right : (a b : Bool) → b ≡ true → (a || b) ≡ true
-or-right true b h = refl
-or-right false b h = h
-
-HasRisen-later : (a b c : ℕ) → a ≤ b → HasRisen b c → HasRisen a c
-HasRisen-later a b c h (inl k) = inl (omega arith)
-HasRisen-later a b c h (inr k) = inr k
 
 pub adds_none : {K E : Type 0} (sink : Ghosts K) (k : K) → AddsLines {E = E} sink k k (Ok (tt {0})) []
 adds_none sink k = record {
@@ -54,7 +48,7 @@ adds_more sink a b c u (Ok v) ls ms h k = record {
 }
 adds_more sink a b c u (Err e) ls ms h k = record {
   whole = tt;
-  part = rw is_part_lines (or-right _ _ (rw h.whole at k.part));
+  part = rw is_part_lines (or_right _ _ (rw h.whole at k.part));
   risen = HasRisen-later _ _ _ h.count k.risen;
   count = omega (arith, h.count, k.count);
   size = k.size ∙ h.size;
@@ -67,7 +61,7 @@ pub adds_part :
 adds_part sink a b e (Ok u) ls ms f h = absurd cc
 adds_part sink a b e (Err fault) ls ms f h = record {
   whole = tt;
-  part = rw is_part_lines (or-left _ _ h.part);
+  part = rw is_part_lines (or_left _ _ h.part);
   risen = h.risen;
   count = h.count;
   size = h.size;

@@ -21,7 +21,8 @@ unfolding text canon_text size_lines setting_lines policy_line schedule_line
 machine_lines-canon cfg = rw guest_lines-programs refl
 
 -- the lines of one guest more
-pub guest_lines-next : (guests : List GuestText) (i : ℕ) (g : GuestText) → i < length guests → g ≡ get_or guests i g → flat_map guest_lines (take (i + 1) guests) ≡ flat_map guest_lines (take i guests) ++ guest_lines g
+pub guest_lines-next : (guests : List GuestText) (i : ℕ) (g : GuestText) → i < length guests → g ≡ get_or guests i g →
+    flat_map guest_lines (take (i + 1) guests) ≡ flat_map guest_lines (take i guests) ++ guest_lines g
 guest_lines-next guests i g k e =
     ap (flat_map guest_lines) (take_more guests i g k ∙ ap (λ (x : GuestText). take i guests ++ x ∷ []) (sym e))
     ∙ flat_map-append guest_lines (take i guests) (g ∷ [])

@@ -1,5 +1,6 @@
 -- whole texts: what is read is in the grammar, and what is in the grammar is read
-use Rattle.std.proofs.Common.{◌≡◌, ℕ, suc, zero, ◌+◌, ◌<◌, ◌≤◌, Bool, true, false, not, cond, eqb, ltb, leb, List, [], ◌∷◌, ◌++◌, length, map, Result, Ok, Err, IfOk, codes, IsTrue, refl, ap, sym, ◌∙◌, subst, arith, append_assoc, append-nil, ⊎_elim}
+use Rattle.std.proofs.Common.{◌≡◌, ℕ, suc, zero, ◌+◌, ◌<◌, ◌≤◌, Bool, true, false, not, cond, eqb, ltb, leb, List, [], ◌∷◌, ◌++◌, length}
+use Rattle.std.proofs.Common.{map, Result, Ok, Err, IfOk, codes, IsTrue, refl, ap, sym, ◌∙◌, subst, arith, append_assoc, append-nil, ⊎_elim}
 use Rattle.std.specs.List.{AllByRecursion}
 use Rattle.std.proofs.lemmas.Bool.{cases_Bool, ltb-false, le-ltb, le-leb}
 use Rattle.std.proofs.lemmas.List.{same_from_push}
@@ -18,13 +19,15 @@ use Rattle.plat_base.specs.declared.faults.Why.TheVariants as why
 use Rattle.plat_text.proofs.Results.{taking, then_ok, ok_is, ok_first, ok_second}
 use Rattle.plat_text.proofs.FormLaws.{row_texts}
 use Rattle.plat_text.proofs.SectionLaws.{row_lists, row_lists-append, rest_lists}
-use Rattle.plat_text.proofs.TextLaws.{rows-clean, finished-clean, over-takes, over-again, IsRowOf, front-takes, HasRow, front-again, line_row}
+use Rattle.plat_text.proofs.TextLaws.{rows-clean, finished-clean, over-takes, over-again, IsRowOf, front-takes, HasRow, front-again}
+use Rattle.plat_text.proofs.TextLaws.{line_row}
 use Rattle.plat_text.proofs.CanonLaws.{canonical-le}
 use Rattle.plat_machine.proofs.MachineLaws.{MachineTook, machine-takes, machine-again, header_of, machine_lines, canon-front}
 
 -- ---- a text alone
 
-within_size : (b : Bool) (fault : Refused) (r : Result Machine Refused) (m : Machine) → cond b (Err fault) r ≡ Ok m → (b ≡ false) × (r ≡ Ok m)
+within_size : (b : Bool) (fault : Refused) (r : Result Machine Refused) (m : Machine) → cond b (Err fault) r ≡ Ok m →
+    (b ≡ false) × (r ≡ Ok m)
 within_size true fault r m e = cc
 within_size false fault r m e = (refl, e)
 
@@ -50,7 +53,8 @@ text-takes bytes m e =
 pub text-short : (bytes : List ℕ) (m : Machine) → IsTextOf bytes m → IsTrue (is_short m)
 unfolding is_short canon_text
 text-short bytes m h =
-    let same : length (text_bytes (word_lists (lines_of 1 bytes))) ≡ length (text_bytes (canon m)) = ap (λ k. length (text_bytes k)) h.words in
+    let same : length (text_bytes (word_lists (lines_of 1 bytes))) ≡ length (text_bytes (canon m)) =
+    ap (λ k. length (text_bytes k)) h.words in
     le-leb (length (text_bytes (canon m))) most_bytes (omega (arith, canonical-le 1 bytes h.clean, same, h.size))
 
 pub text-again : (bytes : List ℕ) (m : Machine) → IsMachine m → IsTextOf bytes m → text_at bytes ≡ Ok m
@@ -60,7 +64,8 @@ text-again bytes m fits h =
     let t = machine-again (rows_of 1 bytes) m [] fits (text-short bytes m h) (rows.0 ∙ h.words ∙ sym (append-nil (canon m))) in
     let took = machine-takes (rows_of 1 bytes) m t.0 t.1 t.2 in
     rw (le-ltb most_bytes (length bytes) h.size)
-    (then_ok (machine_at (rows_of 1 bytes)) _ ((m, t.0), t.1) _ t.2 (then_ok (over t.1) _ (tt {0}) _ (over-again t.1 rows.1.0 t.3 (took.stop ∙ rows.1.1)) refl))
+    (then_ok (machine_at (rows_of 1 bytes)) _ ((m, t.0), t.1) _ t.2
+    (then_ok (over t.1) _ (tt {0}) _ (over-again t.1 rows.1.0 t.3 (took.stop ∙ rows.1.1)) refl))
 
 -- ---- a text inside a longer one
 
@@ -94,10 +99,12 @@ length-row_lists : (rows : List Row) → length (row_lists rows) ≡ length rows
 length-row_lists [] = refl
 length-row_lists (r ∷ rs) = ap suc (length-row_lists rs)
 
-pub from-again : (first : ℕ) (bytes : List ℕ) (m : Machine) (next : ℕ) → IsMachine m → IsTrue (is_short m) → IsFrontOf first bytes m next → text_from first bytes ≡ Ok (m, next)
+pub from-again : (first : ℕ) (bytes : List ℕ) (m : Machine) (next : ℕ) → IsMachine m → IsTrue (is_short m) → IsFrontOf first bytes m next →
+    text_from first bytes ≡ Ok (m, next)
 unfolding text_from
 from-again first bytes m next fits short h =
-    let end_line : line_words h.last ≡ codes "end" ∷ [] = (same_from_push (word_lists h.before) (machine_lines m) (line_words h.last) (codes "end" ∷ [])
+    let end_line : line_words h.last ≡ codes "end" ∷ [] =
+    (same_from_push (word_lists h.before) (machine_lines m) (line_words h.last) (codes "end" ∷ [])
     (h.words ∙ sym (canon-front (header_of m) m.distances m.entries m.inits m.guests))).1 in
     let t = front-again first h.before h.last h.after h.clean (rw end_line refl) in
     let rows_are : (rows_of first bytes).rows ≡ t.0 ++ line_row h.last ∷ t.1.more = ap (λ k. (rest_of first k).rows) h.parts ∙ t.1.parts in
@@ -106,20 +113,24 @@ from-again first bytes m next fits short h =
     ∙ sym (append_assoc (word_lists h.before) (line_words h.last ∷ []) (row_lists t.1.more)) ∙ ap (λ k. k ++ row_lists t.1.more) h.words in
     let u = machine-again (rows_of first bytes) m (row_lists t.1.more) fits short lists in
     let took = machine-takes (rows_of first bytes) m u.0 u.1 u.2 in
-    let fronts : row_lists took.front ≡ row_lists t.0 = (same_from_push (row_lists took.front) (row_lists t.0) (row_texts took.last) (line_words h.last)
+    let fronts : row_lists took.front ≡ row_lists t.0 =
+    (same_from_push (row_lists took.front) (row_lists t.0) (row_texts took.last) (line_words h.last)
     (took.lists ∙ sym h.words ∙ ap (λ k. k ++ line_words h.last ∷ []) (sym t.2))).0 in
     let lengths : length took.front ≡ length t.0 = sym (length-row_lists took.front) ∙ ap length fronts ∙ length-row_lists t.0 in
-    let last_is : took.last ≡ line_row h.last = same_part took.front t.0 took.last (line_row h.last) u.1.rows t.1.more lengths (sym took.rows ∙ rows_are) in
+    let last_is : took.last ≡ line_row h.last =
+    same_part took.front t.0 took.last (line_row h.last) u.1.rows t.1.more lengths (sym took.rows ∙ rows_are) in
     let number : u.0 ≡ next = took.number ∙ ap (λ r. r.line + 1) last_is ∙ sym h.number in
     then_ok (machine_at (rows_of first bytes)) _ ((m, u.0), u.1) _ u.2 (ap (λ k. Ok (m, k)) number)
 
 -- ---- what code answered
 
-pub gives-found : {X Y : Type 0} (view : X → Y) (result : Result X TextFault) (read : Result Y Refused) {P : Y → Type 0} → Gives view result read → ((y : Y) → read ≡ Ok y → P y) → IfOk result (λ x. P (view x))
+pub gives-found : {X Y : Type 0} (view : X → Y) (result : Result X TextFault) (read : Result Y Refused) {P : Y → Type 0} →
+    Gives view result read → ((y : Y) → read ≡ Ok y → P y) → IfOk result (λ x. P (view x))
 gives-found view (Ok x) read g h = h (view x) g
 gives-found view (Err e) read g h = tt
 
-pub gives-only : {X Y : Type 0} (view : X → Y) (result : Result X TextFault) (read : Result Y Refused) (y : Y) → Gives view result read → read ≡ Ok y → Gives view result (Ok y)
+pub gives-only : {X Y : Type 0} (view : X → Y) (result : Result X TextFault) (read : Result Y Refused) (y : Y) → Gives view result read →
+    read ≡ Ok y → Gives view result (Ok y)
 gives-only view (Ok x) read y g e = sym e ∙ g
 gives-only view (Err (fault.Refused r)) read y g e = sym e ∙ g
 gives-only view (Err fault.OutOfMemory) read y g e = tt

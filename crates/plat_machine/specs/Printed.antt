@@ -39,7 +39,8 @@ guest_lines guest = program_lines (program_seen guest)
 -- the lines from the distances on
 abbrev pub body_lines : List Distance → List Entry → List Init → List GuestText → List Words
 body_lines distances entries inits guests =
-    map distance_words distances ++ (map entry_words entries ++ (map init_words inits ++ (flat_map guest_lines guests ++ (codes "end" ∷ []) ∷ [])))
+    map distance_words distances ++ (map entry_words entries
+    ++ (map init_words inits ++ (flat_map guest_lines guests ++ (codes "end" ∷ []) ∷ [])))
 
 abbrev pub machine_lines : Config → List Words
 machine_lines cfg = head_lines cfg ++ body_lines cfg.distances.items cfg.entries.items cfg.inits.items cfg.guests.items

@@ -1,5 +1,6 @@
 //! The lines of a guest while they are read.
-ghost use Rattle.std.specs.Prelude.{◌≡◌, ◌≤◌, bytes_eq, ◌<◌, ◌∷◌, ◌++◌, [], ℕ, false, OnOk, IfOk, IfErr, vec_len, length, map, IsTrue, List as Many};
+ghost use Rattle.std.specs.Prelude.{◌≡◌, ◌≤◌, bytes_eq, ◌<◌, ◌∷◌, ◌++◌, [], ℕ, false, OnOk, IfOk, IfErr, vec_len, length, map, IsTrue};
+ghost use Rattle.std.specs.Prelude.{List as Many};
 ghost use Rattle.std.specs.List.{list_any};
 ghost use Rattle.std.specs.Borrow.{Bor};
 ghost use Rattle.plat_base.specs.Labels.{is_label_name};
@@ -59,9 +60,11 @@ impl<'a> Body<'a> {
     /// Reads a label whose word `label` was taken.
     #[tactic(auto, unfolding(plat_grammar::specs::FirstFault::label_line))]
     fn read_label(&self, row: &mut Row<'a>, at: u32) -> Result<&'a [u8], Refused>
-        ensures reads { Reads (λ (name : Bor (Many ℕ)). record { name = name.now; at = at }) result (label_line at self.now.labels.items row.old) }
+        ensures reads { Reads (λ (name : Bor (Many ℕ)). record { name = name.now; at = at }) result
+            (label_line at self.now.labels.items row.old) }
         ensures spelled { IfOk result (λ (name : Bor (Many ℕ)). IsTrue (is_label_name name.now)) }
-        ensures unknown { IfOk result (λ (name : Bor (Many ℕ)). list_any (λ l. bytes_eq name.now l.name) self.now.labels.items ≡ false) }
+        ensures unknown { IfOk result (λ (name : Bor (Many ℕ)).
+            list_any (λ l. bytes_eq name.now l.name) self.now.labels.items ≡ false) }
         ensures room { OnOk result (length self.now.labels.items < 256) }
     {
         let line = row.line();
@@ -126,7 +129,8 @@ impl<'a> Body<'a> {
         requires spelled { IsTrue (is_label_name name.now) }
         requires unknown { list_any (λ l. bytes_eq name.now l.name) self.old.labels.items ≡ false }
         requires room { length self.old.labels.items < 256 }
-        ensures labels { OnOk result (self.new.labels.items ≡ self.old.labels.items ++ record { name = name.entry.now; at = at } ∷ []) }
+        ensures labels { OnOk result (self.new.labels.items
+            ≡ self.old.labels.items ++ record { name = name.entry.now; at = at } ∷ []) }
         ensures drafts { self.new.drafts.items ≡ self.old.drafts.items }
         ensures memory { IfErr result (λ e. e ≡ fault.OutOfMemory) }
     {

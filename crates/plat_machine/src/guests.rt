@@ -21,7 +21,8 @@ fn ends_guest(word: &[u8]) -> bool
 /// Reads the lines of a guest up to the next `guest` or `end`.
 #[tactic(auto, using(crate::proofs::LoopLemmas::body_steps))]
 fn read_body<'a>(alloc: Global, rows: &mut Rows<'a>) -> Result<Body<'a>, TextFault>
-    ensures { Gives (λ body. ((drafts body.drafts.items, body.labels.items), rows.new)) result (body_at rows.old) }
+    ensures { Gives (λ body. ((drafts body.drafts.items, body.labels.items), rows.new)) result
+        (body_at rows.old) }
 {
     let mut body = Body::new(alloc);
     while !ends_guest(rows.first_word()?.bytes) {
@@ -34,7 +35,8 @@ fn read_body<'a>(alloc: Global, rows: &mut Rows<'a>) -> Result<Body<'a>, TextFau
 /// The instructions of a guest with their labels' numbers.
 #[tactic(auto, using(crate::proofs::LoopLemmas::code_steps))]
 fn code(alloc: Global, body: &Body<'_>) -> Result<List<Instr>, TextFault>
-    ensures { Gives (λ list. list.items) result (code_from body.now.labels.items [] (drafts body.now.drafts.items)) }
+    ensures { Gives (λ list. list.items) result
+        (code_from body.now.labels.items [] (drafts body.now.drafts.items)) }
 {
     let mut list = List::new(alloc);
     for read in &body.drafts {

@@ -2,7 +2,8 @@
 ghost use Rattle.std.specs.Prelude.{◌≡◌, length, codes};
 ghost use Rattle.plat_base.specs.Machine.{turns_of};
 ghost use Rattle.plat_grammar.specs.Forms.{Reads, Gives, line_at, listed, number_in};
-ghost use Rattle.plat_grammar.specs.FirstFault.{number_line, size_of, size_line, version_line, platinum_line, policy_line, random_line, schedule_line, header_at};
+ghost use Rattle.plat_grammar.specs.FirstFault.{number_line, size_of, size_line, version_line, platinum_line, policy_line, random_line};
+ghost use Rattle.plat_grammar.specs.FirstFault.{schedule_line, header_at};
 ghost use Rattle.plat_machine.specs.Shown.{header};
 
 use plat_base::{List, Plan, PolicyKind, Refused, TextFault, Why};

@@ -3,7 +3,10 @@ ghost use Rattle.std.specs.Prelude.{◌≡◌, ◌<◌, None, OnOk};
 ghost use Rattle.std.specs.List.{list_all};
 ghost use Rattle.plat_base.specs.Labels.{is_label_byte, is_label_name};
 ghost use Rattle.plat_grammar.specs.Forms.{Reads, refused, chosen};
-ghost use Rattle.plat_grammar.specs.Drafts.{register_of, register, address, two_registers, three_registers, instructions, instruction_line, name_of, target as label_at, set_line, move_line, add_line, sub_line, mul_line, and_line, shr_line, load_line, store_line, fadd_line, switch_line, print_line, jump_line, zero_line, less_line, halt_line};
+ghost use Rattle.plat_grammar.specs.Drafts.{register_of, register, address, two_registers, three_registers, instructions, instruction_line};
+ghost use Rattle.plat_grammar.specs.Drafts.{name_of, target as label_at, set_line, move_line, add_line, sub_line, mul_line, and_line};
+ghost use Rattle.plat_grammar.specs.Drafts.{shr_line, load_line, store_line, fadd_line, switch_line, print_line, jump_line, zero_line};
+ghost use Rattle.plat_grammar.specs.Drafts.{less_line, halt_line};
 ghost use Rattle.plat_base.specs.declared.faults.Why.TheVariants as why;
 ghost use Rattle.plat_machine.specs.Shown.{draft, target};
 
@@ -288,7 +291,8 @@ fn halt<'a>(row: &mut Row<'a>) -> Result<Draft<'a>, Refused>
 
 /// Reads an instruction whose first word was taken.
 fn kind<'a>(row: &mut Row<'a>, line: u32, first: Token<'a>) -> Result<Draft<'a>, Refused>
-    ensures { Reads draft result (chosen instructions (refused line first.entry.column why.UnknownInstruction) first.entry.bytes.now row.old) }
+    ensures { Reads draft result (chosen instructions (refused line first.entry.column why.UnknownInstruction)
+        first.entry.bytes.now row.old) }
 {
     let word = first.bytes;
     if word == b"set".as_slice() {

@@ -5,7 +5,7 @@ ghost use Rattle.plat_base.specs.Machine.{same_nodes, same_place, same_word};
 ghost use Rattle.plat_grammar.specs.Forms.{Reads, Gives, once};
 ghost use Rattle.plat_grammar.specs.FirstFault.{other_node, distance_line, entry_line, init_line, distances_at, entries_at, inits_at};
 
-use plat_base::{Distance, Entry, Init, List, Refused, TextFault, Why};
+use plat_base::{Distance, Entries, Entry, Init, List, Refused, TextFault, Why};
 use plat_text::{Row, Rows, at_word, read_u32, refusal};
 use std::alloc::Global;
 
@@ -131,9 +131,9 @@ pub fn distances(
     Ok(list)
 }
 
-/// Reads the `map` lines.
+/// Reads the `map` lines one by one.
 #[tactic(auto, using(plat_text::proofs::FormLemmas::repeated_steps), unfolding(plat_grammar::specs::FirstFault::entries_at))]
-pub fn entries(alloc: Global, rows: &mut Rows<'_>, pages: u32) -> Result<List<Entry>, TextFault>
+fn entry_list(alloc: Global, rows: &mut Rows<'_>, pages: u32) -> Result<List<Entry>, TextFault>
     ensures { Gives (λ list. (list.items, rows.new)) result (entries_at pages rows.old) }
 {
     let mut list = List::new(alloc);
@@ -143,6 +143,14 @@ pub fn entries(alloc: Global, rows: &mut Rows<'_>, pages: u32) -> Result<List<En
         list.push(read);
     }
     Ok(list)
+}
+
+/// Reads the `map` lines.
+pub fn entries(alloc: Global, rows: &mut Rows<'_>, pages: u32) -> Result<Entries, TextFault>
+    ensures { Gives (λ entries. (entries.items, rows.new)) result (entries_at pages rows.old) }
+{
+    let list = entry_list(alloc, rows, pages)?;
+    Ok(Entries::new(alloc, list)?)
 }
 
 /// Reads the `init` lines.

@@ -8,22 +8,13 @@ ghost use Rattle.plat_machine.specs.PrintTried.{tried, three_labels};
 
 use crate::print_machine;
 use plat_base::{
-    Config, Distance, Entry, GuestText, Init, Instr, Label, List, Name, OutOfMemory, Plan,
+    Config, Distance, Entries, Entry, GuestText, Init, Instr, Label, List, Name, OutOfMemory, Plan,
     PolicyKind,
 };
 use plat_io::{QuietSink, WriteFault};
+use plat_samples::listed;
 use std::alloc::Global;
 use std::test::Fail;
-
-fn listed<T: Copy>(alloc: Global, items: &[T]) -> Result<List<T>, OutOfMemory>
-    ensures { IfOk result (λ list. list.items ≡ items.now) }
-{
-    let mut list = List::with_room(alloc, items.len())?;
-    for item in items {
-        list.push(*item);
-    }
-    Ok(list)
-}
 
 fn label(name: &[u8], at: u32) -> Label
     requires { IsTrue (is_label_name name.now) }
@@ -47,7 +38,8 @@ fn labelled(alloc: Global, a: u32, b: u32, c: u32) -> Result<List<Label>, OutOfM
 
 /// One guest, without labels.
 fn one_guest(alloc: Global, space: u32, code: &[Instr]) -> Result<List<GuestText>, OutOfMemory>
-    ensures { IfOk result (λ guests. programs_seen guests.items ≡ record { space = space; code = code.now; labels = [] } ∷ []) }
+    ensures { IfOk result (λ guests. programs_seen guests.items
+        ≡ record { space = space; code = code.now; labels = [] } ∷ []) }
 {
     let mut guests = List::with_room(alloc, 1)?;
     guests.push(GuestText {
@@ -66,7 +58,9 @@ fn two_guests(
     b: u32,
     c: u32,
 ) -> Result<List<GuestText>, OutOfMemory>
-    ensures { IfOk result (λ guests. programs_seen guests.items ≡ record { space = 0; code = code.now; labels = three_labels a b c } ∷ record { space = 7; code = []; labels = [] } ∷ []) }
+    ensures { IfOk result (λ guests. programs_seen guests.items
+        ≡ record { space = 0; code = code.now; labels = three_labels a b c }
+        ∷ record { space = 7; code = []; labels = [] } ∷ []) }
 {
     let mut guests = List::with_room(alloc, 2)?;
     guests.push(GuestText {
@@ -99,10 +93,18 @@ fn config(
     inits: &[Init],
     guests: List<GuestText>,
 ) -> Result<Config, OutOfMemory>
-    requires limits { IsTrue (is_machine (tried nodes policy (turns_of schedule) distances.now entries.now inits.now (programs_seen guests.items))) }
-    requires short { IsTrue (is_short (tried nodes policy (turns_of schedule) distances.now entries.now inits.now (programs_seen guests.items))) }
-    ensures { IfOk result (λ cfg. machine cfg ≡ tried nodes policy (turns_of schedule) distances.now entries.now inits.now (programs_seen guests.items)) }
+    requires limits { IsTrue (is_machine
+        (tried nodes policy (turns_of schedule) distances.now entries.now inits.now
+        (programs_seen guests.items))) }
+    requires short { IsTrue (is_short
+        (tried nodes policy (turns_of schedule) distances.now entries.now inits.now
+        (programs_seen guests.items))) }
+    ensures { IfOk result (λ cfg. machine cfg
+        ≡ tried nodes policy (turns_of schedule) distances.now entries.now inits.now
+        (programs_seen guests.items)) }
 {
+    let entries = listed(alloc, entries)?;
+    let entries = Entries::new(alloc, entries)?;
     Ok(Config {
         nodes,
         frames: 1,
@@ -112,7 +114,7 @@ fn config(
         budget: 10,
         schedule,
         distances: listed(alloc, distances)?,
-        entries: listed(alloc, entries)?,
+        entries,
         inits: listed(alloc, inits)?,
         guests,
     })

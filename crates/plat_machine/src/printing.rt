@@ -8,7 +8,8 @@ ghost use Rattle.plat_base.specs.Machine.{is_program, programs_seen};
 ghost use Rattle.plat_base.specs.Seen.{machine};
 ghost use Rattle.plat_io.specs.Adds.{Adds};
 ghost use Rattle.plat_io.specs.Lines.{AddsLines};
-ghost use Rattle.plat_machine.specs.Printed.{policy_line, schedule_line, size_lines, setting_lines, head_lines, guest_lines, body_lines, machine_lines};
+ghost use Rattle.plat_machine.specs.Printed.{policy_line, schedule_line, size_lines, setting_lines, head_lines, guest_lines, body_lines};
+ghost use Rattle.plat_machine.specs.Printed.{machine_lines};
 
 use crate::printing_guests::write_guest;
 use plat_base::{Config, Distance, Entry, GuestText, Init, Plan, PolicyKind};
@@ -122,7 +123,8 @@ fn write_body<K: Sink>(
     guests: &[GuestText],
 ) -> Result<(), WriteFault>
     requires { IsTrue (list_all is_program (programs_seen guests.now)) }
-    ensures { AddsLines K.Sink sink.old sink.new result (body_lines distances.now entries.now inits.now guests.now) }
+    ensures { AddsLines K.Sink sink.old sink.new result
+        (body_lines distances.now entries.now inits.now guests.now) }
 {
     write_distances(sink, distances)?;
     write_entries(sink, entries)?;

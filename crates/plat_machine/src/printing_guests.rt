@@ -25,7 +25,8 @@ pub(crate) fn write_guest<K: Sink>(sink: &mut K, guest: &GuestText) -> Result<()
 fn write_labelled<K: Sink>(sink: &mut K, labels: &[Label], code: &[Instr]) -> Result<(), WriteFault>
     requires instructions { IsTrue (list_all (is_instr (length labels.now)) code.now) }
     requires rising { IsTrue (labels_rise 0 (length code.now) labels.now) }
-    ensures { AddsLines K.Sink sink.old sink.new result (with_labels 0 (map (instr_words (label_name labels.now)) code.now) labels.now) }
+    ensures { AddsLines K.Sink sink.old sink.new result
+        (with_labels 0 (map (instr_words (label_name labels.now)) code.now) labels.now) }
 {
     let mut at = 0;
     for label in labels {
@@ -55,7 +56,8 @@ fn write_stretch<K: Sink>(
     requires order { from ≤ to }
     requires within { to ≤ length code.now }
     requires instructions { IsTrue (list_all (is_instr (length labels.now)) code.now) }
-    ensures { AddsLines K.Sink sink.old sink.new result (map (instr_words (label_name labels.now)) (take (to - from) (drop from code.now))) }
+    ensures { AddsLines K.Sink sink.old sink.new result
+        (map (instr_words (label_name labels.now)) (take (to - from) (drop from code.now))) }
 {
     write_code(sink, labels, &code[from..to])
 }
@@ -128,7 +130,8 @@ fn write_operation<K: Sink>(
     a: u32,
     b: u32,
 ) -> Result<(), WriteFault>
-    ensures { AddsLines K.Sink sink.old sink.new result ((name.now ∷ register_word d ∷ register_word a ∷ register_word b ∷ []) ∷ []) }
+    ensures { AddsLines K.Sink sink.old sink.new result
+        ((name.now ∷ register_word d ∷ register_word a ∷ register_word b ∷ []) ∷ []) }
 {
     write_line(sink, &[Text(name), register(d), register(a), register(b)])
 }
@@ -141,7 +144,8 @@ fn write_access<K: Sink>(
     k: u32,
     index: Option<u32>,
 ) -> Result<(), WriteFault>
-    ensures { AddsLines K.Sink sink.old sink.new result ((name.now ∷ register_word r ∷ decimal k ∷ index_words index) ∷ []) }
+    ensures { AddsLines K.Sink sink.old sink.new result
+        ((name.now ∷ register_word r ∷ decimal k ∷ index_words index) ∷ []) }
 {
     match index {
         None => write_line(sink, &[Text(name), register(r), Number(k)]),
@@ -156,7 +160,8 @@ fn write_fadd<K: Sink>(
     k: u32,
     index: Option<u32>,
 ) -> Result<(), WriteFault>
-    ensures { AddsLines K.Sink sink.old sink.new result ((codes "fadd" ∷ register_word d ∷ register_word s ∷ decimal k ∷ index_words index) ∷ []) }
+    ensures { AddsLines K.Sink sink.old sink.new result
+        ((codes "fadd" ∷ register_word d ∷ register_word s ∷ decimal k ∷ index_words index) ∷ []) }
 {
     let name = Text(b"fadd");
     match index {

@@ -11,7 +11,7 @@ ghost use Rattle.plat_machine.specs.Shown.{front};
 use crate::guests::guests;
 use crate::headers::{Header, read_header};
 use crate::lists::{distances, entries, inits};
-use plat_base::{Config, Distance, Entry, GuestText, Init, List, Refused, TextFault, Why};
+use plat_base::{Config, Distance, Entries, GuestText, Init, List, Refused, TextFault, Why};
 use plat_text::{Rows, refusal};
 use std::alloc::Global;
 
@@ -23,7 +23,7 @@ const MOST_BYTES: usize = 1_048_576;
 pub struct Front {
     pub header: Header,
     pub distances: List<Distance>,
-    pub entries: List<Entry>,
+    pub entries: Entries,
     pub inits: List<Init>,
     pub guests: List<GuestText>,
 }
@@ -149,7 +149,8 @@ pub fn parse_from(alloc: Global, bytes: &[u8], first_line: u32) -> Result<(Confi
     // The lines before that number are in the grammar of the machine.
     ensures found { IfOk result (λ r. IsFrontOf first_line bytes.now (machine r.0) r.1) }
     // Where the first lines are in the grammar of a machine with a short canonical text, it is read.
-    ensures only { (m : Machine) (next : ℕ) → IsMachine m → IsTrue (is_short m) → IsFrontOf first_line bytes.now m next
+    ensures only { (m : Machine) (next : ℕ) → IsMachine m → IsTrue (is_short m) →
+        IsFrontOf first_line bytes.now m next
         → Gives {Y = Machine × ℕ} (λ r. (machine r.0, r.1)) result (Ok (m, next)) }
     // Which fault it is.
     ensures exact { Gives (λ r. (machine r.0, r.1)) result (text_from first_line bytes.now) }

@@ -1,9 +1,11 @@
 -- the journals from some places on, and the first actor whose next item passes
-use Rattle.std.specs.Prelude.{◌≡◌, ℕ, zero, suc, ◌+◌, ◌<◌, ◌≤◌, Bool, true, false, List, [], ◌∷◌, length, drop, replicate, Option, Some, None, slice_index, slice_index_or, slice_set, slice_get, MatchOption}
+use Rattle.std.specs.Prelude.{◌≡◌, ℕ, zero, suc, ◌+◌, ◌<◌, ◌≤◌, Bool, true, false, List, [], ◌∷◌, length, drop, replicate, Option, Some}
+use Rattle.std.specs.Prelude.{None, slice_index, slice_index_or, slice_set, slice_get, MatchOption}
 use Rattle.std.proofs.Common.{refl, ap, sym, ◌∙◌, arith}
 use Rattle.std.specs.List.{position_from}
 use Rattle.std.specs.Option.{option_map_or}
 use Rattle.std.proofs.lemmas.List.Sums.{sum_by-cons}
+use Rattle.std.proofs.lemmas.Option.{slice_get_within}
 use Rattle.plat_base.specs.declared.items.Item.{Item}
 use Rattle.plat_events.specs.Merges.{Journals, items_left, without_next}
 use Rattle.plat_merge.specs.Heads.{left_from, head_passes}
@@ -17,7 +19,8 @@ drop-none zero = refl
 drop-none (suc n) = refl
 
 -- what is left of one journal
-pub left-at : (journals : Journals) (next : List ℕ) (a : ℕ) → slice_index_or (left_from journals next) a [] ≡ drop (slice_index next a) (slice_index_or journals a [])
+pub left-at : (journals : Journals) (next : List ℕ) (a : ℕ) → slice_index_or (left_from journals next) a []
+    ≡ drop (slice_index next a) (slice_index_or journals a [])
 unfolding no_items
 left-at [] next a = sym (drop-none (slice_index next a))
 left-at (journal ∷ journals) [] zero = refl
@@ -93,11 +96,6 @@ no-place f d n (x ∷ xs) none =
 
 -- ---- one item of a list
 
-pub get-below : {A : Type 0} (xs : List A) (n : ℕ) (x : A) → slice_get xs n ≡ Some x → n < length xs
-get-below [] n x h = absurd cc
-get-below (y ∷ ys) zero x h = omega arith
-get-below (y ∷ ys) (suc n) x h = let l = get-below ys n x h in omega arith
-
 pub get-some : {A : Type 0} (xs : List A) (n : ℕ) (x : A) → n < length xs → x ≡ slice_index_or xs n x → slice_get xs n ≡ Some x
 get-some [] n x l e = absurd (omega arith)
 get-some (y ∷ ys) zero x l e = ap Some (sym e)
@@ -112,7 +110,7 @@ passes-head test journals next a h = by (slice_get (slice_index_or journals a []
         (o : Option Item) → slice_get (slice_index_or journals a []) (slice_index next a) ≡ o → option_map_or test o false ≡ true
         → slice_index next a < length (slice_index_or journals a [])
     by None e k = absurd cc
-    by (Some i) e k = get-below (slice_index_or journals a []) (slice_index next a) i e
+    by (Some i) e k = slice_get_within (slice_index_or journals a []) (slice_index next a) i e
 
 -- no journal has more items than all have
 pub one-left : (journals : Journals) (a : ℕ) → length (slice_index_or journals a []) ≤ items_left journals

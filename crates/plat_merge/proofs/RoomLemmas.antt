@@ -12,15 +12,15 @@ use Rattle.std.proofs.lemmas.Nat.{mul-le}
 use Rattle.plat_base.proofs.LimitLemmas.{Limits, limits_of}
 
 -- those of the processors, and those of the daemon
-pub rooms-sum : (m : Machine) → sum (journal_rooms m) ≡ m.nodes * (4 * m.budget) + sum (option_to_list (daemon_room m.nodes m.budget m.pages m.policy))
+pub rooms-sum : (m : Machine) →
+    sum (journal_rooms m) ≡ m.nodes * (4 * m.budget) + sum (option_to_list (daemon_room m.nodes m.budget m.pages m.policy))
 rooms-sum m =
-    omega (arith, sum_by-append (λ x. x) (replicate m.nodes (processor_room m.budget)) (option_to_list (daemon_room m.nodes m.budget m.pages m.policy)), sum_by-replicate (λ x. x) m.nodes (processor_room m.budget))
-
--- they fit 32 bits
-pub processors-fit : (m : Machine) → IsTrue (is_machine m) → m.nodes * (4 * m.budget) ≤ 2097152
-processors-fit m h =
-    let l : Limits m = limits_of m h in
-    mul-le m.nodes (4 * m.budget) 8 262144 l.nodes_most (omega (arith, l.budget_most))
+    omega (
+      arith,
+      sum_by-append (λ x. x) (replicate m.nodes (processor_room m.budget))
+          (option_to_list (daemon_room m.nodes m.budget m.pages m.policy)),
+      sum_by-replicate (λ x. x) m.nodes (processor_room m.budget),
+    )
 
 -- there are at most nine actors
 one-most : (o : Option ℕ) → length (option_to_list o) ≤ 1
@@ -31,4 +31,10 @@ pub rooms-few : (m : Machine) → IsTrue (is_machine m) → length (journal_room
 rooms-few m h =
     let l : Limits m = limits_of m h in
     let daemon = daemon_room m.nodes m.budget m.pages m.policy in
-    omega (arith, length-append (replicate m.nodes (processor_room m.budget)) (option_to_list daemon), length-replicate m.nodes (processor_room m.budget), one-most daemon, l.nodes_most)
+    omega (
+      arith,
+      length-append (replicate m.nodes (processor_room m.budget)) (option_to_list daemon),
+      length-replicate m.nodes (processor_room m.budget),
+      one-most daemon,
+      l.nodes_most,
+    )

@@ -1,5 +1,6 @@
 -- where the journals are those of a good history, the counts say exactly which items are ready
-use Rattle.std.specs.Prelude.{◌≡◌, ◌⊎◌, ℕ, ◌+◌, ◌<◌, ◌≤◌, ◌==◌, nat_lt, nat_le, ◌&&◌, ◌||◌, not, if◌then◌else◌, Bool, true, false, List, [], ◌∷◌, ◌++◌, count_by, None}
+use Rattle.std.specs.Prelude.{◌≡◌, ◌⊎◌, ℕ, ◌+◌, ◌<◌, ◌≤◌, ◌==◌, nat_lt, nat_le, ◌&&◌, ◌||◌, not, if◌then◌else◌, Bool, true, false, List, []}
+use Rattle.std.specs.Prelude.{◌∷◌, ◌++◌, count_by, None}
 use Rattle.std.proofs.Common.{refl, ap, sym, ◌∙◌, inl, inr, arith, subst}
 use Rattle.std.specs.List.{list_any, list_all}
 use Rattle.std.proofs.lemmas.Bool.{cases_Bool, and_parts, or_parts, eqb-true, eq-eqb, true≢false}
@@ -30,7 +31,8 @@ use Rattle.plat_laws.proofs.CopyLaws.{IsCurrent}
 use Rattle.plat_merge_laws.proofs.NeighbourLemmas.{version-counts, seq-counts}
 use Rattle.plat_merge_laws.proofs.OrderLemmas.{writes-rise, seq-rises, not-both}
 use Rattle.plat_merge_laws.proofs.MergeLaws.{AllKept, kept-moved, current-after}
-use Rattle.plat_merge.specs.Standing.{is_load_of, is_load_up_to, is_use_below, is_write_below, loads_waiting, uses_waiting, writes_waiting, may_remove, may_stand}
+use Rattle.plat_merge.specs.Standing.{is_load_of, is_load_up_to, is_use_below, is_write_below, loads_waiting, uses_waiting, writes_waiting}
+use Rattle.plat_merge.specs.Standing.{may_remove, may_stand}
 
 -- ---- counts and tests of lists
 
@@ -63,7 +65,8 @@ if-none due f g each (x ∷ xs) h k =
     let parts = or_parts (g x) (list_any g xs) k in
     rw (each x due_parts.0 parts.0) (if-none due f g each xs due_parts.1 parts.1)
 
-none-too : {A : Type 0} (f g : A → Bool) → ((x : A) → f x ≡ false → g x ≡ false) → (xs : List A) → list_any f xs ≡ false → list_any g xs ≡ false
+none-too : {A : Type 0} (f g : A → Bool) → ((x : A) → f x ≡ false → g x ≡ false) → (xs : List A) → list_any f xs ≡ false →
+    list_any g xs ≡ false
 none-too f g each [] h = refl
 none-too f g each (x ∷ xs) h =
     let parts = or_parts (f x) (list_any f xs) h in rw (each x parts.0) (none-too f g each xs parts.1)
@@ -150,7 +153,8 @@ module _ (placed : List Item) where
           omega (arith, count, one, late, early, next)
       by (inr load) count early same low = true≢false (sym (rw (load, same, low) refl) ∙ none)
 
-  use-free : (a : Access) (c : Change) → a.grant < seq_of placed a.page → is_due placed (item.Change c) ≡ true → comes_before_use c a ≡ false
+  use-free : (a : Access) (c : Change) → a.grant < seq_of placed a.page → is_due placed (item.Change c) ≡ true →
+      comes_before_use c a ≡ false
   use-free a c granted due =
       not-both (c.page == a.page) (nat_le c.seq a.grant) (λ same before.
       let p : c.page ≡ a.page = eqb-true c.page a.page same in
@@ -229,7 +233,8 @@ module _ (placed : List Item) where
       by : (is_write a.kind ≡ true) ⊎ (is_write a.kind ≡ false) → comes_before_access b a ≡ false
       by (inl write) =
           write-free a b write (subst (λ w. FitsVersion w a.version (flat_writes placed a.page a.word)) write fits) due
-          (sym (ap (λ (w : Bool). if w then is_load_up_to a.page a.word (flat_writes placed a.page a.word) (item.Access b) else false) write) ∙ none)
+          (sym (ap (λ (w : Bool). if w then is_load_up_to a.page a.word (flat_writes placed a.page a.word) (item.Access b) else false)
+          write) ∙ none)
       by (inr load) = load-free a b load (subst (λ w. FitsVersion w a.version (flat_writes placed a.page a.word)) load fits) due
 
   free-one : (i j : Item) → HasNumbers i → is_due placed j ≡ true → holds-up i j ≡ false → comes_before j i ≡ false
@@ -262,8 +267,10 @@ module _ (placed : List Item) where
       by (inr load) = rw load refl
       by (inl write) = rw write
           (not-both (is_load_of a.page a.word b) (nat_le b.version (flat_writes placed a.page a.word)) (λ of low.
-          let next : a.version ≡ flat_writes placed a.page a.word + 1 = subst (λ w. FitsVersion w a.version (flat_writes placed a.page a.word)) write fits in
-          let same : (b.page == a.page && b.word == a.word) ≡ true = (and_parts (not (is_write b.kind)) (b.page == a.page && b.word == a.word) of).1 in
+          let next : a.version ≡ flat_writes placed a.page a.word + 1 =
+          subst (λ w. FitsVersion w a.version (flat_writes placed a.page a.word)) write fits in
+          let same : (b.page == a.page && b.word == a.word) ≡ true =
+          (and_parts (not (is_write b.kind)) (b.page == a.page && b.word == a.word) of).1 in
           let early : nat_lt b.version a.version ≡ true = grind (arith, nat_tests) in
           let before : comes_before_access b a ≡ true = rw (write, same, early) refl in
           true≢false (sym before ∙ free)))
@@ -307,20 +314,25 @@ module _ (placed : List Item) where
       → may_remove (uses_waiting placed left d.page) (writes_waiting placed left d.page) r ≡ true
   unfolding waited-for
   removal-stands d removed.Nothing left none = refl
-  removal-stands d removed.Writes left none = eq-eqb (writes_waiting placed left d.page) 0 (none-count (is_write_below d.page (seq_of placed d.page)) left none)
-  removal-stands d removed.All left none = eq-eqb (uses_waiting placed left d.page) 0 (none-count (is_use_below d.page (seq_of placed d.page)) left none)
+  removal-stands d removed.Writes left none =
+      eq-eqb (writes_waiting placed left d.page) 0 (none-count (is_write_below d.page (seq_of placed d.page)) left none)
+  removal-stands d removed.All left none =
+      eq-eqb (uses_waiting placed left d.page) 0 (none-count (is_use_below d.page (seq_of placed d.page)) left none)
 
   all-false : {A : Type 0} (xs : List A) → list_any (λ x. false) xs ≡ false
   all-false [] = refl
   all-false (x ∷ xs) = all-false xs
 
   stands-removal :
-      (d : Change) (r : Removed) (left : List Item) → may_remove (uses_waiting placed left d.page) (writes_waiting placed left d.page) r ≡ true
+      (d : Change) (r : Removed) (left : List Item) → may_remove (uses_waiting placed left d.page) (writes_waiting placed left d.page) r
+      ≡ true
       → list_any (waited-for d r) left ≡ false
   unfolding waited-for
   stands-removal d removed.Nothing left h = all-false left
-  stands-removal d removed.Writes left h = count-none (is_write_below d.page (seq_of placed d.page)) left (eqb-true (writes_waiting placed left d.page) 0 h)
-  stands-removal d removed.All left h = count-none (is_use_below d.page (seq_of placed d.page)) left (eqb-true (uses_waiting placed left d.page) 0 h)
+  stands-removal d removed.Writes left h =
+      count-none (is_write_below d.page (seq_of placed d.page)) left (eqb-true (writes_waiting placed left d.page) 0 h)
+  stands-removal d removed.All left h =
+      count-none (is_use_below d.page (seq_of placed d.page)) left (eqb-true (uses_waiting placed left d.page) 0 h)
 
   access-stands :
       (a : Access) (left : List Item) → HasNumbers (item.Access a) → list_any (holds-up (item.Access a)) left ≡ false
@@ -334,11 +346,14 @@ module _ (placed : List Item) where
       by : (is_write a.kind ≡ true) ⊎ (is_write a.kind ≡ false) → may_stand placed left (item.Access a) ≡ true
       by (inl write) =
           let next : (a.version == flat_writes placed a.page a.word + 1) ≡ true =
-          eq-eqb a.version (flat_writes placed a.page a.word + 1) (subst (λ w. FitsVersion w a.version (flat_writes placed a.page a.word)) write numbers.1) in
+          eq-eqb a.version (flat_writes placed a.page a.word + 1)
+          (subst (λ w. FitsVersion w a.version (flat_writes placed a.page a.word)) write numbers.1) in
           let waits : list_any (is_load_up_to a.page a.word (flat_writes placed a.page a.word)) left ≡ false =
-          sym (ap (λ (w : Bool). list_any (λ j. if w then is_load_up_to a.page a.word (flat_writes placed a.page a.word) j else false) left) write) ∙ none in
+          sym (ap (λ (w : Bool). list_any (λ j. if w then is_load_up_to a.page a.word (flat_writes placed a.page a.word) j else false) left)
+          write) ∙ none in
           let zero : (loads_waiting placed left a.page a.word == 0) ≡ true =
-          eq-eqb (loads_waiting placed left a.page a.word) 0 (none-count (is_load_up_to a.page a.word (flat_writes placed a.page a.word)) left waits) in
+          eq-eqb (loads_waiting placed left a.page a.word) 0
+          (none-count (is_load_up_to a.page a.word (flat_writes placed a.page a.word)) left waits) in
           joined write granted next zero
         where
           joined :
@@ -346,15 +361,21 @@ module _ (placed : List Item) where
               → (a.version == flat_writes placed a.page a.word + 1) ≡ true → (loads_waiting placed left a.page a.word == 0) ≡ true
               → may_stand placed left (item.Access a) ≡ true
           joined write g n z =
-              ap (λ (w : Bool). nat_lt a.grant (seq_of placed a.page) && (if w then a.version == flat_writes placed a.page a.word + 1 && loads_waiting placed left a.page a.word == 0 else nat_le a.version (flat_writes placed a.page a.word))) write
-              ∙ all_three (nat_lt a.grant (seq_of placed a.page)) (a.version == flat_writes placed a.page a.word + 1) (loads_waiting placed left a.page a.word == 0) g n z
+              ap (λ (w : Bool). nat_lt a.grant (seq_of placed a.page)
+              && (if w then a.version == flat_writes placed a.page a.word + 1 && loads_waiting placed left a.page a.word == 0
+              else nat_le a.version (flat_writes placed a.page a.word))) write
+              ∙ all_three (nat_lt a.grant (seq_of placed a.page)) (a.version == flat_writes placed a.page a.word + 1)
+              (loads_waiting placed left a.page a.word == 0) g n z
             where
               all_three : (x y z : Bool) → x ≡ true → y ≡ true → z ≡ true → (x && (y && z)) ≡ true
               all_three x y z e f g = rw (e, f, g) refl
       by (inr load) =
-          let low : a.version ≤ flat_writes placed a.page a.word = subst (λ w. FitsVersion w a.version (flat_writes placed a.page a.word)) load numbers.1 in
+          let low : a.version ≤ flat_writes placed a.page a.word =
+          subst (λ w. FitsVersion w a.version (flat_writes placed a.page a.word)) load numbers.1 in
           let test : nat_le a.version (flat_writes placed a.page a.word) ≡ true = grind (arith, nat_tests) in
-          ap (λ (w : Bool). nat_lt a.grant (seq_of placed a.page) && (if w then a.version == flat_writes placed a.page a.word + 1 && loads_waiting placed left a.page a.word == 0 else nat_le a.version (flat_writes placed a.page a.word))) load
+          ap (λ (w : Bool). nat_lt a.grant (seq_of placed a.page)
+          && (if w then a.version == flat_writes placed a.page a.word + 1 && loads_waiting placed left a.page a.word == 0
+          else nat_le a.version (flat_writes placed a.page a.word))) load
           ∙ both (nat_lt a.grant (seq_of placed a.page)) (nat_le a.version (flat_writes placed a.page a.word)) granted test
         where
           both : (x y : Bool) → x ≡ true → y ≡ true → (x && y) ≡ true
@@ -369,11 +390,15 @@ module _ (placed : List Item) where
       parts :
           (w : Bool) → is_write a.kind ≡ w
           → (nat_lt a.grant (seq_of placed a.page) ≡ true)
-          × ((if w then a.version == flat_writes placed a.page a.word + 1 && loads_waiting placed left a.page a.word == 0 else nat_le a.version (flat_writes placed a.page a.word)) ≡ true)
+          × ((if w then a.version == flat_writes placed a.page a.word + 1 && loads_waiting placed left a.page a.word == 0
+          else nat_le a.version (flat_writes placed a.page a.word)) ≡ true)
       parts w e =
           and_parts (nat_lt a.grant (seq_of placed a.page))
-          (if w then a.version == flat_writes placed a.page a.word + 1 && loads_waiting placed left a.page a.word == 0 else nat_le a.version (flat_writes placed a.page a.word))
-          (sym (ap (λ (w : Bool). nat_lt a.grant (seq_of placed a.page) && (if w then a.version == flat_writes placed a.page a.word + 1 && loads_waiting placed left a.page a.word == 0 else nat_le a.version (flat_writes placed a.page a.word))) e) ∙ h)
+          (if w then a.version == flat_writes placed a.page a.word + 1 && loads_waiting placed left a.page a.word == 0
+          else nat_le a.version (flat_writes placed a.page a.word))
+          (sym (ap (λ (w : Bool). nat_lt a.grant (seq_of placed a.page)
+          && (if w then a.version == flat_writes placed a.page a.word + 1 && loads_waiting placed left a.page a.word == 0
+          else nat_le a.version (flat_writes placed a.page a.word))) e) ∙ h)
 
       by :
           (is_write a.kind ≡ true) ⊎ (is_write a.kind ≡ false)
@@ -382,16 +407,23 @@ module _ (placed : List Item) where
           let p = parts true write in
           let q = and_parts (a.version == flat_writes placed a.page a.word + 1) (loads_waiting placed left a.page a.word == 0) p.1 in
           let granted : a.grant < seq_of placed a.page = let g = p.0 in grind (arith, nat_tests) in
-          let none = count-none (is_load_up_to a.page a.word (flat_writes placed a.page a.word)) left (eqb-true (loads_waiting placed left a.page a.word) 0 q.1) in (
-            (granted, subst (λ w. FitsVersion w a.version (flat_writes placed a.page a.word)) (sym write) (eqb-true a.version (flat_writes placed a.page a.word + 1) q.0)),
-            ap (λ (w : Bool). list_any (λ j. if w then is_load_up_to a.page a.word (flat_writes placed a.page a.word) j else false) left) write ∙ none,
+          let none = count-none (is_load_up_to a.page a.word (flat_writes placed a.page a.word)) left
+          (eqb-true (loads_waiting placed left a.page a.word) 0 q.1) in (
+            (
+              granted,
+              subst (λ w. FitsVersion w a.version (flat_writes placed a.page a.word)) (sym write)
+                  (eqb-true a.version (flat_writes placed a.page a.word + 1) q.0),
+            ),
+            ap (λ (w : Bool). list_any (λ j. if w then is_load_up_to a.page a.word (flat_writes placed a.page a.word) j else false) left)
+                write ∙ none,
           )
       by (inr load) =
           let p = parts false load in
           let granted : a.grant < seq_of placed a.page = let g = p.0 in grind (arith, nat_tests) in
           let low : a.version ≤ flat_writes placed a.page a.word = let g = p.1 in grind (arith, nat_tests) in (
             (granted, subst (λ w. FitsVersion w a.version (flat_writes placed a.page a.word)) (sym load) low),
-            ap (λ (w : Bool). list_any (λ j. if w then is_load_up_to a.page a.word (flat_writes placed a.page a.word) j else false) left) load ∙ all-false left,
+            ap (λ (w : Bool). list_any (λ j. if w then is_load_up_to a.page a.word (flat_writes placed a.page a.word) j else false) left)
+                load ∙ all-false left,
           )
 
   numbers-stand : (i : Item) (left : List Item) → HasNumbers i → list_any (holds-up i) left ≡ false → may_stand placed left i ≡ true
@@ -406,7 +438,8 @@ module _ (placed : List Item) where
   unfolding holds-up
   stand-numbers (item.Access a) left h = stands-access a left h
   stand-numbers (item.Change d) left h =
-      let parts = and_parts (d.seq == seq_of placed d.page) (may_remove (uses_waiting placed left d.page) (writes_waiting placed left d.page) d.removed) h
+      let parts = and_parts (d.seq == seq_of placed d.page)
+      (may_remove (uses_waiting placed left d.page) (writes_waiting placed left d.page) d.removed) h
       in (eqb-true d.seq (seq_of placed d.page) parts.0, stands-removal d d.removed left parts.1)
   stand-numbers (item.Applied x) left h = (tt, all-false left)
   stand-numbers (item.Switch s) left h = (tt, all-false left)
@@ -451,7 +484,8 @@ module _ (m : Machine) (answer : Answer) (placed front back : List Item) (i : It
           (sym (list_any-append (λ j. comes_before j i) front (i ∷ back)) ∙ free)).0 in
           let moved = kept-moved m answer placed front back i front_free alone kept in
           let numbers = kept-numbers placed m answer i (current-after m answer placed start) moved.0 in
-          numbers-stand placed i left numbers (none-too (λ j. comes_before j i) (holds-up placed i) (λ j. held-one placed i j numbers) left free)
+          numbers-stand placed i left numbers
+          (none-too (λ j. comes_before j i) (holds-up placed i) (λ j. held-one placed i j numbers) left free)
 
       free_of : may_stand placed left i ≡ true → waits ≡ false
       free_of h =

@@ -1,5 +1,6 @@
 -- a merge from its start to its end
-use Rattle.std.specs.Prelude.{◌≡◌, ℕ, suc, ◌+◌, ◌*◌, ◌<◌, ◌≤◌, ◌==◌, nat_lt, nat_le, ◌&&◌, not, Bool, true, false, List, [], ◌∷◌, ◌++◌, length, replicate, count_by, Some, slice_index, slice_index_or, slice_set, slice_get, IsTrue}
+use Rattle.std.specs.Prelude.{◌≡◌, ℕ, suc, ◌+◌, ◌*◌, ◌<◌, ◌≤◌, ◌==◌, nat_lt, nat_le, ◌&&◌, not, Bool, true, false, List, [], ◌∷◌, ◌++◌}
+use Rattle.std.specs.Prelude.{length, replicate, count_by, Some, slice_index, slice_index_or, slice_set, slice_get, IsTrue}
 use Rattle.std.proofs.Common.{refl, ap, sym, ◌∙◌, arith, subst}
 use Rattle.std.specs.List.{sum, list_all, list_any}
 use lib.Pointwise.{pointwise_long}
@@ -19,7 +20,7 @@ use Rattle.plat_base.specs.declared.items.Item.TheVariants as item
 use Rattle.plat_events.specs.Merges.{Journals, items_left, merge_from, merged}
 use Rattle.plat_merge_laws.specs.Merging.{HasJournals}
 use Rattle.plat_merge_laws.proofs.JournalLemmas.{items_left-length, journals-none}
-use Rattle.plat_merge_laws.proofs.MergeLaws.{AllKept, kept-from, whole_kept}
+use Rattle.plat_merge_laws.proofs.MergeLaws.{AllKept, kept-from}
 use Rattle.plat_merge.specs.declared.counts.WordCount.{WordCount}
 use Rattle.plat_merge.specs.declared.counts.PageCount.{PageCount}
 use Rattle.plat_merge.specs.declared.counts.Counts.{Counts}
@@ -35,7 +36,9 @@ use Rattle.plat_merge.proofs.StepLemmas.{count-split}
 use Rattle.plat_merge.proofs.HeadLemmas.{left-start}
 use Rattle.plat_merge.specs.RoomSeen.{HaveGoodHistory}
 use Rattle.plat_merge.proofs.TotalLemmas.{within-all}
-use Rattle.plat_merge.proofs.UnderWay.{KnowsTotals, IsUnderWay, none-ready, merged-next, size-next, under_way-next, can-place-next, within-head}
+use Rattle.plat_merge.proofs.UnderWay.{KnowsTotals, IsUnderWay, none-ready, merged-next, size-next, under_way-next, can-place-next}
+use Rattle.plat_merge.proofs.UnderWay.{within-head}
+use Rattle.plat_laws.proofs.HistoryLaws.{good-items}
 
 -- ---- the start
 
@@ -88,7 +91,8 @@ start-shown m t items words pages knows size blank noted = record {
       ap (λ (x : WordCount). x.loads) (noted (cell_of m.words page word) (inside page word p w))
       ∙ (knows.loads page word 0 p w ∙ sym (first-version page word items));
   changes = λ page p. ap (λ (x : PageCount). x.changes) (empty page p);
-  uses = λ page p. ap (λ (x : PageCount). x.uses) (empty page p) ∙ sym (none-count (is_use_below page 0) items (none-below (λ a. a.page == page) items));
+  uses = λ page p. ap (λ (x : PageCount). x.uses) (empty page p)
+      ∙ sym (none-count (is_use_below page 0) items (none-below (λ a. a.page == page) items));
   writing = λ page p.
       ap (λ (x : PageCount). x.writes) (empty page p)
       ∙ sym (none-count (is_write_below page 0) items (none-below (λ a. is_write a.kind && a.page == page) items));
@@ -102,7 +106,8 @@ start-shown m t items words pages knows size blank noted = record {
 
 -- ---- a merge
 
-pub record IsMerging (m : Machine) (t : Totals) (journals : Journals) (next : List ℕ) (placed : List Item) (words : List WordCount) (pages : List PageCount) (most : ℕ) : Type 0 where
+pub record IsMerging (m : Machine) (t : Totals) (journals : Journals) (next : List ℕ) (placed : List Item) (words : List WordCount)
+    (pages : List PageCount) (most : ℕ) : Type 0 where
   pub answer : Answer
   pub way : IsUnderWay m answer t (left_from journals next) placed words pages
   pub whole : merged journals ≡ placed ++ merge_from (length way.items) (left_from journals next)
@@ -110,7 +115,8 @@ pub record IsMerging (m : Machine) (t : Totals) (journals : Journals) (next : Li
 
 -- all that is left has been placed
 pub merging-end :
-    (m : Machine) (t : Totals) (journals : Journals) (next : List ℕ) (placed : List Item) (words : List WordCount) (pages : List PageCount) (most : ℕ)
+    (m : Machine) (t : Totals) (journals : Journals) (next : List ℕ) (placed : List Item) (words : List WordCount) (pages : List PageCount)
+    (most : ℕ)
     → IsMerging m t journals next placed words pages most → most ≤ length placed → merged journals ≡ placed
 merging-end m t journals next placed words pages most u h =
     let none : length u.way.items ≡ 0 = omega (arith, u.all, h) in
@@ -118,7 +124,8 @@ merging-end m t journals next placed words pages most u h =
 
 -- nobody is ready, so nothing is left
 pub merging-none :
-    (m : Machine) (t : Totals) (journals : Journals) (next : List ℕ) (placed : List Item) (words : List WordCount) (pages : List PageCount) (most n : ℕ)
+    (m : Machine) (t : Totals) (journals : Journals) (next : List ℕ) (placed : List Item) (words : List WordCount) (pages : List PageCount)
+    (most n : ℕ)
     → IsMerging m t journals next placed words pages most → length journals ≡ n
     → ((k : ℕ) → k < n → head_passes (stands_by m.words words pages) journals next k ≡ false) → merged journals ≡ placed
 merging-none m t journals next placed words pages most n u size none =
@@ -128,29 +135,35 @@ merging-none m t journals next placed words pages most n u size none =
 
 -- the next item is placed
 pub merging-next :
-    (m : Machine) (t : Totals) (journals : Journals) (next : List ℕ) (placed : List Item) (words : List WordCount) (pages : List PageCount) (most : ℕ)
+    (m : Machine) (t : Totals) (journals : Journals) (next : List ℕ) (placed : List Item) (words : List WordCount) (pages : List PageCount)
+    (most : ℕ)
     → IsMerging m t journals next placed words pages most → (a : ℕ) (i : Item)
     → slice_get (slice_index_or journals a []) (slice_index next a) ≡ Some i
     → head_passes (stands_by m.words words pages) journals next a ≡ true
     → ((k : ℕ) → k < a → head_passes (stands_by m.words words pages) journals next k ≡ false) → a < length journals → a < length next
-    → IsMerging m t journals (slice_set next a (slice_index next a + 1)) (placed ++ i ∷ []) (words_placed m.words t words i) (pages_placed t pages i) most
+    → IsMerging m t journals (slice_set next a (slice_index next a + 1)) (placed ++ i ∷ []) (words_placed m.words t words i)
+    (pages_placed t pages i) most
 merging-next m t journals next placed words pages most u a i h chosen lower here place =
     let way = under_way-next m u.answer t journals next placed words pages u.way a i h chosen lower here place in
-    let size : length u.way.items ≡ suc (length way.items) = size-next m u.answer t journals next placed words pages u.way a i h chosen lower here place in
+    let size : length u.way.items ≡ suc (length way.items) =
+    size-next m u.answer t journals next placed words pages u.way a i h chosen lower here place in
     record {
       answer = u.answer;
       way = way;
       whole =
           u.whole
           ∙ (ap (λ k. placed ++ merge_from k (left_from journals next)) size
-          ∙ (ap (λ xs. placed ++ xs) (merged-next m u.answer t journals next placed words pages u.way a i h chosen lower here place (length way.items))
-          ∙ sym (append_assoc placed (i ∷ []) (merge_from (length way.items) (left_from journals (slice_set next a (slice_index next a + 1)))))));
+          ∙ (ap (λ xs. placed ++ xs) (merged-next m u.answer t journals next placed words pages u.way a i h chosen lower here place
+          (length way.items))
+          ∙ sym (append_assoc placed (i ∷ [])
+          (merge_from (length way.items) (left_from journals (slice_set next a (slice_index next a + 1)))))));
       all = omega (arith, u.all, size, length-append placed (i ∷ []));
     }
 
 -- a merge begins
 pub merging-start :
-    (m : Machine) (answer : Answer) (t : Totals) (journals : Journals) (items : List Item) (words : List WordCount) (pages : List PageCount) (k most : ℕ)
+    (m : Machine) (answer : Answer) (t : Totals) (journals : Journals) (items : List Item) (words : List WordCount) (pages : List PageCount)
+    (k most : ℕ)
     → HasJournals items journals → AllKept m answer [] items → list_all (is_within m.pages m.words) items ≡ true → KnowsTotals m t items
     → ShowsCounts m [] items m.words words pages → items_left journals ≤ most
     → IsMerging m t journals (replicate k 0) [] words pages most
@@ -166,7 +179,8 @@ merging-start m answer t journals items words pages k most has kept within knows
     within = within;
     totals = knows;
   };
-  whole = ap (λ n. merge_from n journals) (items_left-length items journals has) ∙ ap (merge_from (length items)) (sym (left-start journals k));
+  whole = ap (λ n. merge_from n journals) (items_left-length items journals has)
+      ∙ ap (merge_from (length items)) (sym (left-start journals k));
   all = omega (arith, few, items_left-length items journals has);
 }
 
@@ -176,14 +190,17 @@ pub merging-place :
     → IsMerging m t journals next placed c.words.items c.pages.items most → (a : ℕ) (i : Item)
     → slice_get (slice_index_or journals a []) (slice_index next a) ≡ Some i
     → head_passes (stands_by m.words c.words.items c.pages.items) journals next a ≡ true
-    → ((k : ℕ) → k < a → head_passes (stands_by m.words c.words.items c.pages.items) journals next k ≡ false) → a < length journals → a < length next
+    → ((k : ℕ) → k < a → head_passes (stands_by m.words c.words.items c.pages.items) journals next k ≡ false) → a < length journals →
+    a < length next
     → c.page_words ≡ m.words → most ≤ MOST_ITEMS → CanPlace c t i
 merging-place m t journals next placed c most u a i h chosen lower here place same few =
-    can-place-next m u.answer t journals next placed c.words.items c.pages.items u.way a i h chosen lower here place c same refl refl (omega (arith, u.all, few))
+    can-place-next m u.answer t journals next placed c.words.items c.pages.items u.way a i h chosen lower here place c same refl refl
+    (omega (arith, u.all, few))
 
 -- each next item is within the machine
 pub merging-within :
-    (m : Machine) (t : Totals) (journals : Journals) (next : List ℕ) (placed : List Item) (words : List WordCount) (pages : List PageCount) (most : ℕ)
+    (m : Machine) (t : Totals) (journals : Journals) (next : List ℕ) (placed : List Item) (words : List WordCount) (pages : List PageCount)
+    (most : ℕ)
     → IsMerging m t journals next placed words pages most → (a : ℕ) (i : Item)
     → slice_get (slice_index_or journals a []) (slice_index next a) ≡ Some i → is_within m.pages m.words i ≡ true
 merging-within m t journals next placed words pages most u a i h = within-head m u.answer t journals next placed words pages u.way a i h
@@ -195,12 +212,14 @@ all-from_none p [] h = refl
 all-from_none p (x ∷ xs) h =
     let parts = or_parts (not (p x)) (list_any (λ x. not (p x)) xs) h in rw (not-false (p x) parts.0) (all-from_none p xs parts.1)
 
-none-from_all : {A : Type 0} (p q : A → Bool) → ((x : A) → p x ≡ true → q x ≡ true) → (xs : List A) → list_all p xs ≡ true → list_any (λ x. not (q x)) xs ≡ false
+none-from_all : {A : Type 0} (p q : A → Bool) → ((x : A) → p x ≡ true → q x ≡ true) → (xs : List A) → list_all p xs ≡ true →
+    list_any (λ x. not (q x)) xs ≡ false
 none-from_all p q each [] h = refl
 none-from_all p q each (x ∷ xs) h =
     let parts = and_parts (p x) (list_all p xs) h in rw (each x parts.0) (none-from_all p q each xs parts.1)
 
-all-journals : (p : Item → Bool) (journals : Journals) → list_any (list_any (λ i. not (p i))) journals ≡ false → list_all (list_all p) journals ≡ true
+all-journals : (p : Item → Bool) (journals : Journals) → list_any (list_any (λ i. not (p i))) journals ≡ false →
+    list_all (list_all p) journals ≡ true
 all-journals p [] h = refl
 all-journals p (j ∷ js) h =
     let parts = or_parts (list_any (λ i. not (p i)) j) (list_any (list_any (λ i. not (p i))) js) h in
@@ -227,9 +246,10 @@ pub record AreMergeable (m : Machine) (journals : Journals) : Type 0 where
   pub few : sum (journal_rooms m) ≤ 2621440
   pub lists : length journals ≡ length (journal_rooms m)
 
-pub mergeable : (m : Machine) (journals : Journals) → IsTrue (is_machine m) → HaveGoodHistory m journals → IsTrue (fit_rooms (journal_rooms m) journals) → AreMergeable m journals
+pub mergeable : (m : Machine) (journals : Journals) → IsTrue (is_machine m) → HaveGoodHistory m journals →
+    IsTrue (fit_rooms (journal_rooms m) journals) → AreMergeable m journals
 mergeable m journals limits good fits =
-    let kept = kept-from m good.answer [] 0 good.items (whole_kept m good.answer good.items good.ends good.good) in
+    let kept = kept-from m good.answer [] 0 good.items (good-items m good.answer good.items good.ends good.good) in
     let left = lengths-most (journal_rooms m) journals fits in
     let few = journal_rooms-most m limits in
     let inside = within-all m good.answer [] good.items kept in

@@ -1,5 +1,6 @@
 -- what the counts are once the next item is placed
-use Rattle.std.specs.Prelude.{◌≡◌, ◌⊎◌, ℕ, ◌+◌, ◌<◌, ◌≤◌, ◌==◌, nat_lt, nat_le, ◌&&◌, not, if◌then◌else◌, Bool, true, false, List, [], ◌∷◌, ◌++◌, count_by, Some, None}
+use Rattle.std.specs.Prelude.{◌≡◌, ◌⊎◌, ℕ, ◌+◌, ◌<◌, ◌≤◌, ◌==◌, nat_lt, nat_le, ◌&&◌, not, if◌then◌else◌, Bool, true, false, List, [], ◌∷◌}
+use Rattle.std.specs.Prelude.{◌++◌, count_by, Some, None}
 use Rattle.std.proofs.Common.{refl, ap, sym, ◌∙◌, inl, inr, arith, subst}
 use Rattle.std.specs.List.{list_any}
 use Rattle.std.proofs.lemmas.Bool.{cases_Bool, and_parts, not-true, eqb-true}
@@ -18,7 +19,8 @@ use Rattle.plat_base.specs.declared.items.Item.TheVariants as item
 use Rattle.plat_laws.proofs.ItemLaws.{flat_writes-append, seq_of-append}
 use Rattle.plat_merge_laws.proofs.OrderLemmas.{writes-rise, seq-rises, not-both}
 use Rattle.plat_merge_laws.proofs.MergeLaws.{AllKept, kept-append, current-after}
-use Rattle.plat_merge.specs.Standing.{access_passes, changes_page, is_load_of, is_load_up_to, is_load_at, is_use_at, is_write_at, loads_waiting, uses_waiting, writes_waiting}
+use Rattle.plat_merge.specs.Standing.{access_passes, changes_page, is_load_of, is_load_up_to, is_load_at, is_use_at, is_write_at}
+use Rattle.plat_merge.specs.Standing.{loads_waiting, uses_waiting, writes_waiting}
 use Rattle.plat_merge.proofs.StandLemmas.{one_if, none-count, FitsVersion, HasNumbers, kept-numbers}
 
 -- ---- counts of lists
@@ -29,7 +31,8 @@ count-cons f x xs = sum_by-cons (λ y. if f y then 1 else 0) x xs
 pub count-append : {A : Type 0} (f : A → Bool) (xs ys : List A) → count_by f (xs ++ ys) ≡ count_by f xs + count_by f ys
 count-append f xs ys = sum_by-append (λ y. if f y then 1 else 0) xs ys
 
-count-taken : {A : Type 0} (f : A → Bool) (front back : List A) (i : A) → count_by f (front ++ i ∷ back) ≡ one_if (f i) + count_by f (front ++ back)
+count-taken : {A : Type 0} (f : A → Bool) (front back : List A) (i : A) →
+    count_by f (front ++ i ∷ back) ≡ one_if (f i) + count_by f (front ++ back)
 count-taken f front back i =
     omega (arith, count-append f front (i ∷ back), count-cons f i back, count-append f front back)
 
@@ -69,7 +72,12 @@ module _ (m : Machine) (answer : Answer) where
   unfolding FitsVersion
   load-past page word n before [] start kept low = refl
   load-past page word n before (x ∷ xs) start kept low =
-      rw (one x kept.0 (omega (arith, low, flat_writes-append before (x ∷ xs) page word, writes-rise page word (flat_writes before page word) (x ∷ xs))))
+      rw (one x kept.0 (omega (
+        arith,
+        low,
+        flat_writes-append before (x ∷ xs) page word,
+        writes-rise page word (flat_writes before page word) (x ∷ xs),
+      )))
       (load-past page word n (before ++ x ∷ []) xs (kept-append m answer [] before (x ∷ []) start (kept.0, tt)) kept.1
       (subst (λ zs. flat_writes zs page word ≤ n) (sym (append_assoc before (x ∷ []) xs)) low))
     where
@@ -83,7 +91,8 @@ module _ (m : Machine) (answer : Answer) where
           let count : flat_writes before b.page b.word ≡ flat_writes before page word =
           ap (λ x. flat_writes before x b.word) p ∙ ap (flat_writes before page) w in
           let numbers = kept-numbers before m answer (item.Access b) (current-after m answer before start) here in
-          let early : b.version ≤ flat_writes before b.page b.word = subst (λ t. FitsVersion before t b.version (flat_writes before b.page b.word)) load numbers.1 in
+          let early : b.version ≤ flat_writes before b.page b.word =
+          subst (λ t. FitsVersion before t b.version (flat_writes before b.page b.word)) load numbers.1 in
           omega (arith, early, count, below, eqb-true b.version (n + 1) at))
       one (item.Change c) here below = refl
       one (item.Applied y) here below = refl
@@ -111,14 +120,17 @@ module _ (m : Machine) (answer : Answer) where
 
 -- ---- one more item
 
-pub flat_writes-more : (placed : List Item) (i : Item) (page word : ℕ) → flat_writes (placed ++ i ∷ []) page word ≡ flat_writes placed page word + one_if (writes_word page word i)
-flat_writes-more placed i page word = flat_writes-append placed (i ∷ []) page word ∙ by (writes_word page word i) (flat_writes placed page word)
+pub flat_writes-more : (placed : List Item) (i : Item) (page word : ℕ) → flat_writes (placed ++ i ∷ []) page word
+    ≡ flat_writes placed page word + one_if (writes_word page word i)
+flat_writes-more placed i page word = flat_writes-append placed (i ∷ []) page word
+    ∙ by (writes_word page word i) (flat_writes placed page word)
   where
     by : (b : Bool) (n : ℕ) → (if b then n + 1 else n) ≡ n + one_if b
     by true n = refl
     by false n = omega arith
 
-pub seq_of-more : (placed : List Item) (i : Item) (page : ℕ) → seq_of (placed ++ i ∷ []) page ≡ seq_of placed page + one_if (changes_page page i)
+pub seq_of-more : (placed : List Item) (i : Item) (page : ℕ) →
+    seq_of (placed ++ i ∷ []) page ≡ seq_of placed page + one_if (changes_page page i)
 seq_of-more placed i page = seq_of-append placed (i ∷ []) page ∙ by i (seq_of placed page)
   where
     none : (n : ℕ) → n ≡ n + 0
@@ -139,7 +151,8 @@ pass-if true q h = h refl
 pass-if false q h = refl
 
 -- an item that writes a word loads nothing
-write-loads : (page word : ℕ) (g : Access → Bool) (i : Item) → writes_word page word i ≡ true → access_passes (λ a. is_load_of page word a && g a) i ≡ false
+write-loads : (page word : ℕ) (g : Access → Bool) (i : Item) → writes_word page word i ≡ true →
+    access_passes (λ a. is_load_of page word a && g a) i ≡ false
 write-loads page word g (item.Access a) h =
     let writes = (and_parts (is_write a.kind) (a.page == page) (and_parts (is_write a.kind && a.page == page) (a.word == word) h).0).0 in
     rw writes refl
@@ -175,7 +188,8 @@ module _
     numbers = kept-numbers placed m answer i (current-after m answer placed start) kept
 
     -- a load has a version that is placed
-    load-counted : (page word : ℕ) (i : Item) → HasNumbers placed i → is_load_up_to page word (flat_writes placed page word) i ≡ access_passes (is_load_of page word) i
+    load-counted : (page word : ℕ) (i : Item) → HasNumbers placed i → is_load_up_to page word (flat_writes placed page word) i
+        ≡ access_passes (is_load_of page word) i
     unfolding FitsVersion
     load-counted page word (item.Access a) numbers =
         pass-if (is_load_of page word a) (nat_le a.version (flat_writes placed page word)) (λ of.
@@ -185,7 +199,8 @@ module _
         let w : a.word ≡ word = eqb-true a.word word (and_parts (a.page == page) (a.word == word) parts.1).1 in
         let count : flat_writes placed a.page a.word ≡ flat_writes placed page word =
         ap (λ x. flat_writes placed x a.word) p ∙ ap (flat_writes placed page) w in
-        let early : a.version ≤ flat_writes placed a.page a.word = subst (λ t. FitsVersion placed t a.version (flat_writes placed a.page a.word)) load numbers.1 in
+        let early : a.version ≤ flat_writes placed a.page a.word =
+        subst (λ t. FitsVersion placed t a.version (flat_writes placed a.page a.word)) load numbers.1 in
         let low : a.version ≤ flat_writes placed page word = omega (arith, early, count) in
         grind (arith, nat_tests))
     load-counted page word (item.Change c) numbers = refl
@@ -216,7 +231,8 @@ module _
         n : ℕ
         n = flat_writes placed page word
 
-        taken : count_by (is_load_up_to page word n) whole ≡ one_if (is_load_up_to page word n i) + count_by (is_load_up_to page word n) (front ++ back)
+        taken : count_by (is_load_up_to page word n) whole ≡ one_if (is_load_up_to page word n i)
+            + count_by (is_load_up_to page word n) (front ++ back)
         taken = count-taken (is_load_up_to page word n) front back i
 
         by :
@@ -228,7 +244,9 @@ module _
             let more : flat_writes next page word ≡ n + 1 = flat_writes-more placed i page word ∙ ap (λ b. n + one_if b) writes in
             let bound = ap (λ k. count_by (is_load_up_to page word k) (front ++ back)) more in
             let split = count-split (is_load_up_to page word (n + 1)) (is_load_up_to page word n) (is_load_at page word (n + 1))
-            (passes-split (λ a. is_load_of page word a && nat_le a.version (n + 1)) (λ a. is_load_of page word a && nat_le a.version n) (λ a. is_load_of page word a && a.version == n + 1) (λ a. up-to-split (is_load_of page word a) n a.version)) (front ++ back) in
+            (passes-split (λ a. is_load_of page word a && nat_le a.version (n + 1)) (λ a. is_load_of page word a && nat_le a.version n)
+            (λ a. is_load_of page word a && a.version == n + 1) (λ a. up-to-split (is_load_of page word a) n a.version))
+            (front ++ back) in
             let here = ap one_if (write-loads page word (λ a. nat_le a.version n) i writes) in
             let at = ap one_if (write-loads page word (λ a. a.version == n + 1) i writes) in
             let none = ap one_if (write-loads_none page word i writes) in
@@ -272,7 +290,8 @@ module _
             let more : seq_of next page ≡ n + 1 = seq_of-more placed i page ∙ ap (λ b. n + one_if b) changes in
             let bound = ap (λ k. count_by (below k) (front ++ back)) more in
             let split = count-split (below (n + 1)) (below n) exactly
-            (passes-split (λ a. pass a && nat_lt a.grant (n + 1)) (λ a. pass a && nat_lt a.grant n) (λ a. pass a && a.grant == n) (λ a. below-split (pass a) n a.grant)) (front ++ back) in
+            (passes-split (λ a. pass a && nat_lt a.grant (n + 1)) (λ a. pass a && nat_lt a.grant n) (λ a. pass a && a.grant == n)
+            (λ a. below-split (pass a) n a.grant)) (front ++ back) in
             let here = ap one_if (change-passes page (λ a. pass a && nat_lt a.grant n) i changes) in
             let at = ap one_if (change-passes page (λ a. pass a && a.grant == n) i changes) in
             let none = ap one_if (change-passes page pass i changes) in
@@ -291,12 +310,15 @@ module _
     pub uses-step :
         (page : ℕ)
         → uses_waiting next (front ++ back) page + one_if (access_passes (λ a. a.page == page) i)
-        ≡ uses_waiting placed whole page + (if changes_page page i then count_by (is_use_at page (seq_of placed page)) (placed ++ whole) else 0)
+        ≡ uses_waiting placed whole page + (if changes_page page i then count_by (is_use_at page (seq_of placed page)) (placed ++ whole)
+        else 0)
     uses-step page = grants-step (λ a. a.page == page) page (λ a h. eqb-true a.page page h)
 
     pub writes-step :
         (page : ℕ)
         → writes_waiting next (front ++ back) page + one_if (access_passes (λ a. is_write a.kind && a.page == page) i)
-        ≡ writes_waiting placed whole page + (if changes_page page i then count_by (is_write_at page (seq_of placed page)) (placed ++ whole) else 0)
+        ≡ writes_waiting placed whole page + (if changes_page page i then count_by (is_write_at page (seq_of placed page)) (placed ++ whole)
+        else 0)
     writes-step page =
-        grants-step (λ a. is_write a.kind && a.page == page) page (λ a h. eqb-true a.page page (and_parts (is_write a.kind) (a.page == page) h).1)
+        grants-step (λ a. is_write a.kind && a.page == page) page
+        (λ a h. eqb-true a.page page (and_parts (is_write a.kind) (a.page == page) h).1)

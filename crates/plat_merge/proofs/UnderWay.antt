@@ -1,5 +1,6 @@
 -- a merge under way: what is placed and what is left of a good history, and what is kept of them
-use Rattle.std.specs.Prelude.{◌≡◌, ◌⊎◌, ℕ, zero, suc, ◌+◌, ◌<◌, ◌≤◌, ◌==◌, nat_lt, not, Bool, true, false, List, [], ◌∷◌, ◌++◌, length, drop, count_by, Option, Some, None, slice_index, slice_index_or, slice_set, slice_get}
+use Rattle.std.specs.Prelude.{◌≡◌, ◌⊎◌, ℕ, zero, suc, ◌+◌, ◌<◌, ◌≤◌, ◌==◌, nat_lt, not, Bool, true, false, List, [], ◌∷◌, ◌++◌, length}
+use Rattle.std.specs.Prelude.{drop, count_by, Option, Some, None, slice_index, slice_index_or, slice_set, slice_get}
 use Rattle.std.proofs.Common.{refl, ap, sym, ◌∙◌, inl, inr, arith, subst}
 use Rattle.std.specs.List.{list_any, list_all}
 use Rattle.std.specs.Option.{option_map_or}
@@ -13,7 +14,8 @@ use Rattle.plat_base.specs.declared.limits.TheConstants.{MOST_ITEMS}
 use Rattle.plat_base.specs.declared.items.Item.{Item}
 use Rattle.plat_base.specs.declared.items.Item.TheVariants as item
 use Rattle.plat_events.specs.Shown.{actor_of}
-use Rattle.plat_events.specs.Merges.{Journals, comes_before, is_ready, has_ready, ready_actor, without_next, placed_first, merge_step, merge_from}
+use Rattle.plat_events.specs.Merges.{Journals, comes_before, is_ready, has_ready, ready_actor, without_next, placed_first, merge_step}
+use Rattle.plat_events.specs.Merges.{merge_from}
 use Rattle.plat_merge_laws.specs.Merging.{HasJournals}
 use Rattle.plat_merge_laws.proofs.JournalLemmas.{none-journals, journals-none, IsFirst, first_of, journals-moved, journals-without}
 use Rattle.plat_merge_laws.proofs.MergeLaws.{AllKept, kept-append, kept-moved}
@@ -44,7 +46,8 @@ pub record KnowsTotals (m : Machine) (t : Totals) (items : List Item) : Type 0 w
 
 -- ---- the state of a merge
 
-pub record IsUnderWay (m : Machine) (answer : Answer) (t : Totals) (left : Journals) (placed : List Item) (words : List WordCount) (pages : List PageCount) : Type 0 where
+pub record IsUnderWay (m : Machine) (answer : Answer) (t : Totals) (left : Journals) (placed : List Item) (words : List WordCount)
+    (pages : List PageCount) : Type 0 where
   pub items : List Item
   pub has : HasJournals items left
   pub start : AllKept m answer [] placed
@@ -55,7 +58,8 @@ pub record IsUnderWay (m : Machine) (answer : Answer) (t : Totals) (left : Journ
 
 -- ---- lists
 
-all-at : {A : Type 0} (f : A → Bool) (front back : List A) (x : A) → list_all f (front ++ x ∷ back) ≡ true → (f x ≡ true) × (list_all f (front ++ back) ≡ true)
+all-at : {A : Type 0} (f : A → Bool) (front back : List A) (x : A) → list_all f (front ++ x ∷ back) ≡ true →
+    (f x ≡ true) × (list_all f (front ++ back) ≡ true)
 all-at f [] back x h = and_parts (f x) (list_all f back) h
 all-at f (y ∷ front) back x h =
     let parts = and_parts (f y) (list_all f (front ++ x ∷ back)) h in
@@ -66,11 +70,21 @@ count-moved :
     {A : Type 0} (f : A → Bool) (placed front back : List A) (x : A)
     → count_by f (placed ++ (front ++ x ∷ back)) ≡ count_by f ((placed ++ x ∷ []) ++ (front ++ back))
 count-moved f placed front back x =
-    omega (arith, count-append f placed (front ++ x ∷ back), count-append f front (x ∷ back), count-cons f x back, count-append f (placed ++ x ∷ []) (front ++ back), count-append f placed (x ∷ []), count-cons f x [], count-append f front back)
+    omega (
+      arith,
+      count-append f placed (front ++ x ∷ back),
+      count-append f front (x ∷ back),
+      count-cons f x back,
+      count-append f (placed ++ x ∷ []) (front ++ back),
+      count-append f placed (x ∷ []),
+      count-cons f x [],
+      count-append f front back,
+    )
 
 -- ---- the next item of an actor
 
-module _ (m : Machine) (answer : Answer) (t : Totals) (journals : Journals) (next : List ℕ) (placed : List Item) (words : List WordCount) (pages : List PageCount) (u : IsUnderWay m answer t (left_from journals next) placed words pages) where
+module _ (m : Machine) (answer : Answer) (t : Totals) (journals : Journals) (next : List ℕ) (placed : List Item) (words : List WordCount)
+    (pages : List PageCount) (u : IsUnderWay m answer t (left_from journals next) placed words pages) where
   abbrev pub left : Journals
   left = left_from journals next
 
@@ -81,7 +95,8 @@ module _ (m : Machine) (answer : Answer) (t : Totals) (journals : Journals) (nex
   passes a = head_passes (stands_by m.words words pages) journals next a
 
   left-head : (a : ℕ) → slice_get (slice_index_or left a []) 0 ≡ head a
-  left-head a = ap (λ (j : List Item). slice_get j 0) (left-at journals next a) ∙ get-drop (slice_index_or journals a []) (slice_index next a)
+  left-head a = ap (λ (j : List Item). slice_get j 0) (left-at journals next a)
+      ∙ get-drop (slice_index_or journals a []) (slice_index next a)
 
   left-next_item : (a : ℕ) (i : Item) → head a ≡ Some i → slice_index_or left a [] ≡ i ∷ drop 1 (slice_index_or left a [])
   left-next_item a i h = head-of (slice_index_or left a []) i (left-head a ∙ h)
@@ -106,7 +121,8 @@ module _ (m : Machine) (answer : Answer) (t : Totals) (journals : Journals) (nex
   unfolding waits_of
   stands-head a i h =
       let f = first a i h in
-      let exact = stands-exactly m answer placed f.front f.back i u.start (subst (λ zs. AllKept m answer placed zs) f.parts u.kept) (alone a i h) in
+      let exact = stands-exactly m answer placed f.front f.back i u.start (subst (λ zs. AllKept m answer placed zs) f.parts u.kept)
+      (alone a i h) in
       ap (λ zs. not (list_any (λ j. comes_before j i) zs)) f.parts
       ∙ (exact
       ∙ (ap (λ zs. may_stand placed zs i) (sym f.parts)
@@ -114,11 +130,13 @@ module _ (m : Machine) (answer : Answer) (t : Totals) (journals : Journals) (nex
 
   ready-waits : (i : Item) → is_ready left i ≡ not (waits_of i)
   unfolding waits_of
-  ready-waits i = by (cases_Bool (list_any (λ j. comes_before j i) u.items)) (cases_Bool (list_any (λ journal. list_any (λ j. comes_before j i) journal) left))
+  ready-waits i = by (cases_Bool (list_any (λ j. comes_before j i) u.items))
+      (cases_Bool (list_any (λ journal. list_any (λ j. comes_before j i) journal) left))
     where
       by :
           (list_any (λ j. comes_before j i) u.items ≡ true) ⊎ (list_any (λ j. comes_before j i) u.items ≡ false)
-          → (list_any (λ journal. list_any (λ j. comes_before j i) journal) left ≡ true) ⊎ (list_any (λ journal. list_any (λ j. comes_before j i) journal) left ≡ false)
+          → (list_any (λ journal. list_any (λ j. comes_before j i) journal) left ≡ true)
+          ⊎ (list_any (λ journal. list_any (λ j. comes_before j i) journal) left ≡ false)
           → is_ready left i ≡ not (list_any (λ j. comes_before j i) u.items)
       by (inl x) (inl y) = ap not (y ∙ sym x)
       by (inr x) (inr y) = ap not (y ∙ sym x)
@@ -141,7 +159,8 @@ module _ (m : Machine) (answer : Answer) (t : Totals) (journals : Journals) (nex
       (no-place (has_ready left) [] 0 left (λ j l. has_ready-passes j ∙ none j (omega (arith, l, left-length journals next, size))))
 
   -- ---- an actor is ready: its next item is placed
-  module _ (a : ℕ) (i : Item) (h : head a ≡ Some i) (chosen : passes a ≡ true) (lower : (k : ℕ) → k < a → passes k ≡ false) (here : a < length journals) (place : a < length next) where
+  module _ (a : ℕ) (i : Item) (h : head a ≡ Some i) (chosen : passes a ≡ true) (lower : (k : ℕ) → k < a → passes k ≡ false)
+      (here : a < length journals) (place : a < length next) where
     abbrev pub f : IsFirst a u.items i (drop 1 (slice_index_or left a []))
     f = first a i h
 
@@ -175,7 +194,8 @@ module _ (m : Machine) (answer : Answer) (t : Totals) (journals : Journals) (nex
     moved =
         kept-moved m answer placed f.front f.back i
         (or_parts (list_any (λ j. comes_before j i) f.front) (list_any (λ j. comes_before j i) (i ∷ f.back))
-        (sym (list_any-append (λ j. comes_before j i) f.front (i ∷ f.back)) ∙ (ap (list_any (λ j. comes_before j i)) (sym f.parts) ∙ free))).0
+        (sym (list_any-append (λ j. comes_before j i) f.front (i ∷ f.back))
+        ∙ (ap (list_any (λ j. comes_before j i)) (sym f.parts) ∙ free))).0
         (alone a i h) (subst (λ zs. AllKept m answer placed zs) f.parts u.kept)
 
     whole-totals : KnowsTotals m t (placed ++ (f.front ++ i ∷ f.back))
@@ -236,9 +256,13 @@ module _ (m : Machine) (answer : Answer) (t : Totals) (journals : Journals) (nex
         → CanPlace c t i
     can-place-next c same e g few =
         let parts : length u.items ≡ length (f.front ++ i ∷ f.back) = ap length f.parts in
-        let size : length u.items ≡ 1 + length (f.front ++ f.back) = omega (arith, parts, length-append f.front (i ∷ f.back), length-append f.front f.back) in
+        let size : length u.items ≡ 1 + length (f.front ++ f.back) =
+        omega (arith, parts, length-append f.front (i ∷ f.back), length-append f.front f.back) in
         can-place m c t placed u.items (f.front ++ f.back) i same
-        (subst (λ ps. ShowsCounts m placed u.items m.words c.words.items ps) g (subst (λ ws. ShowsCounts m placed u.items m.words ws pages) e u.shows))
-        (subst (λ ps. ShowsCounts m (placed ++ i ∷ []) (f.front ++ f.back) m.words (words_placed m.words t c.words.items i) (pages_placed t ps i)) g
-        (subst (λ ws. ShowsCounts m (placed ++ i ∷ []) (f.front ++ f.back) m.words (words_placed m.words t ws i) (pages_placed t pages i)) e next-shown))
+        (subst (λ ps. ShowsCounts m placed u.items m.words c.words.items ps) g
+        (subst (λ ws. ShowsCounts m placed u.items m.words ws pages) e u.shows))
+        (subst (λ ps. ShowsCounts m (placed ++ i ∷ []) (f.front ++ f.back) m.words (words_placed m.words t c.words.items i)
+        (pages_placed t ps i)) g
+        (subst (λ ws. ShowsCounts m (placed ++ i ∷ []) (f.front ++ f.back) m.words (words_placed m.words t ws i) (pages_placed t pages i)) e
+        next-shown))
         (within-head a i h) (omega (arith, few, size)) size

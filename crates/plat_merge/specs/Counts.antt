@@ -1,5 +1,6 @@
 -- what is kept of each word and of each page while journals are merged
-use Rattle.std.specs.Prelude.{◌≡◌, ℕ, ◌+◌, ◌-◌, ◌*◌, ◌<◌, ◌≤◌, nat_lt, ◌&&◌, if◌then◌else◌, Bool, true, List, length, slice_index_or, slice_set}
+use Rattle.std.specs.Prelude.{◌≡◌, ℕ, ◌+◌, ◌-◌, ◌*◌, ◌<◌, ◌≤◌, nat_lt, ◌&&◌, if◌then◌else◌, Bool, true, List, length, slice_index_or}
+use Rattle.std.specs.Prelude.{slice_set}
 use Rattle.plat_base.specs.Machine.{Machine}
 use Rattle.plat_base.specs.Flat.{is_write, flat_writes}
 use Rattle.plat_base.specs.Directories.{seq_of}
@@ -91,7 +92,8 @@ Noted a loads page_words before after = after ≡ words_after page_words a loads
 -- ---- against the items
 
 -- what is kept says what is placed, and what of those left waits for it
-pub record ShowsCounts (m : Machine) (placed left : List Item) (page_words : ℕ) (words : List WordCount) (pages : List PageCount) : Type 0 where
+pub record ShowsCounts (m : Machine) (placed left : List Item) (page_words : ℕ) (words : List WordCount) (pages : List PageCount) : Type
+    0 where
   pub same_words : page_words ≡ m.words
   pub all_words : length words ≡ m.pages * m.words
   pub all_pages : length pages ≡ m.pages

@@ -1,5 +1,6 @@
 -- the journals from some places on, and which of their next items stands next
-use Rattle.std.specs.Prelude.{◌≡◌, ℕ, ◌<◌, List, [], ◌∷◌, Bool, false, length, drop, slice_index, slice_index_or, slice_get, Option, Some, IsTrue}
+use Rattle.std.specs.Prelude.{◌≡◌, ℕ, ◌<◌, List, [], ◌∷◌, Bool, false, length, drop, slice_index, slice_index_or, slice_get, Option, Some}
+use Rattle.std.specs.Prelude.{IsTrue}
 use Rattle.std.specs.Option.{option_map_or}
 use Rattle.plat_base.specs.declared.items.Item.{Item}
 use Rattle.plat_events.specs.Merges.{Journals}

@@ -4,7 +4,8 @@ ghost use Rattle.std.specs.Prelude.{ℕ, replicate, ◌≡◌, ◌+◌, ◌*◌,
 ghost use Rattle.plat_base.specs.declared.limits.TheConstants.{MOST_ITEMS};
 ghost use Rattle.plat_merge.specs.Standing.{may_access as may_access_by, may_remove as may_remove_by};
 ghost use Rattle.plat_merge.specs.Keys.{AreFirst};
-ghost use Rattle.plat_merge.specs.Counts.{cell_of, page_at, FitCounts, is_within, stands_by, word_of, loads_of, Noted, pages_after, pages_changed, no_page};
+ghost use Rattle.plat_merge.specs.Counts.{cell_of, page_at, FitCounts, is_within, stands_by, word_of, loads_of, Noted, pages_after};
+ghost use Rattle.plat_merge.specs.Counts.{pages_changed, no_page};
 
 use crate::totals::Table;
 use plat_base::{Access, Change, Item, OutOfMemory, Removed};

@@ -1,5 +1,6 @@
 -- journals of items: what is in them, how many items they have, and the next item taken from one
-use Rattle.std.specs.Prelude.{◌≡◌, ◌≢◌, ◌⊎◌, ℕ, zero, suc, ◌+◌, ◌<◌, ◌==◌, ◌||◌, if◌then◌else◌, Bool, true, false, List, [], ◌∷◌, ◌++◌, length, drop, filter, Some, None, slice_index_or}
+use Rattle.std.specs.Prelude.{◌≡◌, ◌≢◌, ◌⊎◌, ℕ, zero, suc, ◌+◌, ◌<◌, ◌==◌, ◌||◌, if◌then◌else◌, Bool, true, false, List, [], ◌∷◌, ◌++◌}
+use Rattle.std.specs.Prelude.{length, drop, filter, Some, None, slice_index_or}
 use Rattle.std.proofs.Common.{refl, ap, sym, ◌∙◌, inl, inr, arith, get_or-set_same, get_or-set_other}
 use Rattle.std.specs.List.{list_any, position_from}
 use Rattle.std.proofs.lemmas.Bool.{cases_Bool, or_parts, eqb-true, eq-eqb, ne_eqb, true≢false}
@@ -11,7 +12,8 @@ use Rattle.plat_merge_laws.specs.Merging.{HasJournals}
 
 -- ---- where nothing of a list passes a test
 
-none-at : {A : Type 0} (f : A → Bool) (d : A) → f d ≡ false → (xs : List A) → list_any f xs ≡ false → (k : ℕ) → f (slice_index_or xs k d) ≡ false
+none-at : {A : Type 0} (f : A → Bool) (d : A) → f d ≡ false → (xs : List A) → list_any f xs ≡ false → (k : ℕ) →
+    f (slice_index_or xs k d) ≡ false
 none-at f d none [] h k = none
 none-at f d none (x ∷ xs) h zero = (or_parts (f x) (list_any f xs) h).0
 none-at f d none (x ∷ xs) h (suc k) = none-at f d none xs (or_parts (f x) (list_any f xs) h).1 k
@@ -40,12 +42,14 @@ others a x xs e = rw (ne_eqb (actor_of x) a e) refl
 none-by : (f : Item → Bool) (xs : List Item) → ((a : ℕ) → list_any f (items_by a xs) ≡ false) → list_any f xs ≡ false
 none-by f [] h = refl
 none-by f (x ∷ xs) h =
-    let here = or_parts (f x) (list_any f (items_by (actor_of x) xs)) (sym (ap (list_any f) (mine (actor_of x) x xs refl)) ∙ h (actor_of x)) in
+    let here = or_parts (f x) (list_any f (items_by (actor_of x) xs)) (sym (ap (list_any f) (mine (actor_of x) x xs refl))
+    ∙ h (actor_of x)) in
     rw here.0 (none-by f xs (λ a. rest a (cases_Bool (actor_of x == a))))
   where
     rest : (a : ℕ) → ((actor_of x == a) ≡ true) ⊎ ((actor_of x == a) ≡ false) → list_any f (items_by a xs) ≡ false
     rest a (inl own) =
-        (or_parts (f x) (list_any f (items_by a xs)) (sym (ap (λ (b : Bool). list_any f (if b then x ∷ items_by a xs else items_by a xs)) own) ∙ h a)).1
+        (or_parts (f x) (list_any f (items_by a xs))
+        (sym (ap (λ (b : Bool). list_any f (if b then x ∷ items_by a xs else items_by a xs)) own) ∙ h a)).1
     rest a (inr other) = sym (ap (λ (b : Bool). list_any f (if b then x ∷ items_by a xs else items_by a xs)) other) ∙ h a
 
 module _ (items : List Item) (journals : Journals) (has : HasJournals items journals) where
@@ -72,7 +76,8 @@ pub first_of : (a : ℕ) (items : List Item) (i : Item) (rest : List Item) → i
 first_of a [] i rest h = absurd cc
 first_of a (x ∷ xs) i rest h = by (cases_Bool (actor_of x == a)) (first_of a xs i rest)
   where
-    by : ((actor_of x == a) ≡ true) ⊎ ((actor_of x == a) ≡ false) → (items_by a xs ≡ i ∷ rest → IsFirst a xs i rest) → IsFirst a (x ∷ xs) i rest
+    by : ((actor_of x == a) ≡ true) ⊎ ((actor_of x == a) ≡ false) → (items_by a xs ≡ i ∷ rest → IsFirst a xs i rest) →
+        IsFirst a (x ∷ xs) i rest
     by (inl own) more =
         let e : x ∷ items_by a xs ≡ i ∷ rest = sym (ap (λ (b : Bool). if b then x ∷ items_by a xs else items_by a xs) own) ∙ h in
         let head : x ≡ i = cc in
@@ -146,7 +151,8 @@ module _ (i : Item) (items : List Item) (journals : Journals) where
   pub journals-without : HasJournals (i ∷ items) journals → HasJournals items (without_next journals (actor_of i))
   journals-without has b = by (cases_Bool (actor_of i == b))
     where
-      by : ((actor_of i == b) ≡ true) ⊎ ((actor_of i == b) ≡ false) → slice_index_or (without_next journals (actor_of i)) b [] ≡ items_by b items
+      by : ((actor_of i == b) ≡ true) ⊎ ((actor_of i == b) ≡ false) → slice_index_or (without_next journals (actor_of i)) b []
+          ≡ items_by b items
       by (inl own) =
           let e : actor_of i ≡ b = eqb-true (actor_of i) b own in
           let l = within journals (actor_of i) i (items_by (actor_of i) items) (front-of has) in
@@ -169,7 +175,8 @@ module _ (i : Item) (items : List Item) (journals : Journals) where
           let e : actor_of i ≡ b = eqb-true (actor_of i) b own in
           let l = within journals (actor_of i) i rest here in
           let taken : rest ≡ items_by (actor_of i) items =
-          sym (ap (drop 1) here) ∙ (sym (get_or-set_same journals (actor_of i) (drop 1 (slice_index_or journals (actor_of i) [])) [] l) ∙ has (actor_of i)) in
+          sym (ap (drop 1) here) ∙ (sym (get_or-set_same journals (actor_of i) (drop 1 (slice_index_or journals (actor_of i) [])) [] l)
+          ∙ has (actor_of i)) in
           ap (λ k. slice_index_or journals k []) (sym e)
           ∙ (here ∙ (ap (λ ys. i ∷ ys) taken ∙ (sym (mine (actor_of i) i items refl) ∙ ap (λ k. items_by k (i ∷ items)) e)))
       by (inr other) =
@@ -252,7 +259,8 @@ ready_actor-some left a h =
     in record { next = i.0; rest = i.1; here = i.2; ready = i.3 }
 
 -- where the next item of an actor is ready, some actor is chosen
-pub ready_actor-there : (left : Journals) (a : ℕ) (i : Item) (rest : List Item) → slice_index_or left a [] ≡ i ∷ rest → is_ready left i ≡ true
+pub ready_actor-there : (left : Journals) (a : ℕ) (i : Item) (rest : List Item) → slice_index_or left a [] ≡ i ∷ rest →
+    is_ready left i ≡ true
     → ready_actor left ≢ None
 ready_actor-there left a i rest here ready none =
     let nothing = none-at (has_ready left) [] refl left (position-none (has_ready left) 0 left none) a in

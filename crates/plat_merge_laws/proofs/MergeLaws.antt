@@ -1,8 +1,9 @@
 -- the merge of the journals of a good history is good
-use Rattle.std.specs.Prelude.{◌≡◌, ◌≢◌, ◌⊎◌, ℕ, zero, suc, ◌+◌, ◌<◌, ◌==◌, not, Bool, true, false, List, [], ◌∷◌, ◌++◌, length, filter, Option, Some, None, slice_index_or, slice_get}
-use Rattle.std.proofs.Common.{refl, ap, sym, ◌∙◌, inl, inr, arith, subst}
-use Rattle.std.specs.List.{fold, list_any, filter_map, cons_option}
-use Rattle.std.proofs.lemmas.Bool.{cases_Bool, or_parts, not-true, eq-eqb, true≢false}
+use Rattle.std.specs.Prelude.{◌≡◌, ◌≢◌, ℕ, zero, suc, ◌+◌, ◌<◌, ◌==◌, not, true, false, List, [], ◌∷◌, ◌++◌, length}
+use Rattle.std.specs.Prelude.{Option, Some, None, slice_index_or, slice_get}
+use Rattle.std.proofs.Common.{refl, ap, sym, ◌∙◌, arith, subst}
+use Rattle.std.specs.List.{fold, list_any, filter_map}
+use Rattle.std.proofs.lemmas.Bool.{or_parts, not-true, eq-eqb, true≢false}
 use Rattle.std.proofs.lemmas.List.{append_assoc, append-nil, length-append}
 use Rattle.std.proofs.lemmas.List.Folds.{list_any-append}
 use Rattle.plat_base.specs.Verdicts.{Answer}
@@ -19,17 +20,20 @@ use Rattle.plat_base.specs.declared.items.Item.TheVariants as item
 use Rattle.plat_base.specs.declared.statuses.Bad.{Bad}
 use Rattle.plat_events.specs.Shown.{actor_of, items_by}
 use Rattle.plat_events.specs.Merges.{Journals, comes_before, ready_actor, without_next, placed_first, merge_step, merge_from, merged}
-use Rattle.plat_laws.proofs.AccessLaws.{both_here}
+use Rattle.plat_laws.proofs.ItemLaws.{fold-filter}
 use Rattle.plat_laws.proofs.CopyLaws.{IsCurrent}
 use Rattle.plat_laws.proofs.CopyChangeLaws.{good_current}
 use Rattle.plat_laws.proofs.EndLaws.{first_bad-none}
-use Rattle.plat_laws.proofs.HistoryLaws.{one_history}
+use Rattle.plat_laws.proofs.HistoryLaws.{one_history, good-items}
 use Rattle.plat_merge_laws.specs.Merging.{HasJournals, MergesAreGood}
 use Rattle.plat_merge_laws.proofs.ReadLemmas.{SameOwn, is_in_order-same}
 use Rattle.plat_merge_laws.proofs.SwapLemmas.{Same, same-more, bad_rule-same, active_after-idle}
 use Rattle.plat_merge_laws.proofs.NeighbourLemmas.{may_swap}
 use Rattle.plat_merge_laws.proofs.OrderLemmas.{behind-not_before, itself-not_before}
-use Rattle.plat_merge_laws.proofs.JournalLemmas.{none-journals, journals-none, IsFirst, first_of, journals-moved, journals-without, journals-with, items_left-length, IsReadyNext, ready_actor-some, ready_actor-there}
+use Rattle.plat_merge_laws.proofs.JournalLemmas.{none-journals, journals-none, IsFirst, first_of, journals-moved, journals-without}
+use Rattle.plat_merge_laws.proofs.JournalLemmas.{journals-with, items_left-length, IsReadyNext, ready_actor-some, ready_actor-there}
+use Rattle.plat_base.proofs.RuleLemmas.{bad_at-none}
+use Rattle.plat_base.proofs.ListLemmas.{filter_map-filter}
 
 -- ---- items that break no rule behind others
 
@@ -38,10 +42,11 @@ AllKept m answer before [] = Unit {0}
 AllKept m answer before (i ∷ is) = (bad_rule m answer before i ≡ None) × AllKept m answer (before ++ i ∷ []) is
 
 module _ (m : Machine) (answer : Answer) where
-  pub kept-from : (before : List Item) (n : ℕ) (items : List Item) → bad_after m answer before n items ≡ None → AllKept m answer before items
+  pub kept-from : (before : List Item) (n : ℕ) (items : List Item) → bad_after m answer before n items ≡ None →
+      AllKept m answer before items
   kept-from before n [] h = tt
   kept-from before n (i ∷ is) h =
-      let both = both_here n (bad_rule m answer before i) (bad_after m answer (before ++ i ∷ []) (n + 1) is) h
+      let both = bad_at-none n (bad_rule m answer before i) (bad_after m answer (before ++ i ∷ []) (n + 1) is) h
       in (both.0, kept-from (before ++ i ∷ []) (n + 1) is both.1)
 
   pub kept-to : (before : List Item) (n : ℕ) (items : List Item) → AllKept m answer before items → bad_after m answer before n items ≡ None
@@ -53,7 +58,8 @@ module _ (m : Machine) (answer : Answer) where
   kept-same xs ys (i ∷ is) same h =
       (sym (bad_rule-same m answer xs ys i same) ∙ h.0, kept-same (xs ++ i ∷ []) (ys ++ i ∷ []) is (same-more m xs ys i same) h.1)
 
-  pub kept-append : (before xs ys : List Item) → AllKept m answer before xs → AllKept m answer (before ++ xs) ys → AllKept m answer before (xs ++ ys)
+  pub kept-append : (before xs ys : List Item) → AllKept m answer before xs → AllKept m answer (before ++ xs) ys →
+      AllKept m answer before (xs ++ ys)
   kept-append before [] ys h k = subst (λ zs. AllKept m answer zs ys) (append-nil before) k
   kept-append before (x ∷ xs) ys h k =
       (h.0, kept-append (before ++ x ∷ []) xs ys h.1 (subst (λ zs. AllKept m answer zs ys) (sym (append_assoc before (x ∷ []) xs)) k))
@@ -70,7 +76,14 @@ module _ (m : Machine) (answer : Answer) where
       let moved = kept-moved (before ++ j ∷ []) front back i free_parts.1 alone_parts.1 h.1 in
       let apart : actor_of j ≢ actor_of i = λ e. true≢false (sym (eq-eqb (actor_of j) (actor_of i) e) ∙ alone_parts.0) in
       let swap = may_swap m answer before j i apart free_parts.0 h.0 moved.0
-      in (swap.first, (swap.second, kept-same ((before ++ j ∷ []) ++ i ∷ []) ((before ++ i ∷ []) ++ j ∷ []) (front ++ back) swap.same moved.1))
+      in (
+        swap.first,
+        (
+          swap.second,
+          kept-same ((before ++ j ∷ []) ++ i ∷ []) ((before ++ i ∷ []) ++ j ∷ []) (front ++ back) swap.same
+              moved.1,
+        ),
+      )
 
   -- nothing behind an item has to stand before it
   none-behind :
@@ -134,7 +147,8 @@ module _ (m : Machine) (answer : Answer) where
       here = ap (λ b. slice_index_or left b []) first.by_actor ∙ next.here
 
       free : list_any (λ j. comes_before j i) items ≡ false
-      free = none-journals items left has (λ j. comes_before j i) (not-true (list_any (λ journal. list_any (λ j. comes_before j i) journal) left) next.ready)
+      free = none-journals items left has (λ j. comes_before j i)
+          (not-true (list_any (λ journal. list_any (λ j. comes_before j i) journal) left) next.ready)
 
       others : List Item
       others = first.front ++ first.back
@@ -145,7 +159,8 @@ module _ (m : Machine) (answer : Answer) where
       front_free : list_any (λ j. comes_before j i) first.front ≡ false
       front_free =
           (or_parts (list_any (λ j. comes_before j i) first.front) (list_any (λ j. comes_before j i) (i ∷ first.back))
-          (sym (list_any-append (λ j. comes_before j i) first.front (i ∷ first.back)) ∙ (ap (list_any (λ j. comes_before j i)) (sym first.parts) ∙ free))).0
+          (sym (list_any-append (λ j. comes_before j i) first.front (i ∷ first.back))
+          ∙ (ap (list_any (λ j. comes_before j i)) (sym first.parts) ∙ free))).0
 
       moved : AllKept m answer before (i ∷ others)
       moved = kept-moved before first.front first.back i front_free alone (subst (λ zs. AllKept m answer before zs) first.parts kept)
@@ -182,28 +197,6 @@ module _ (m : Machine) (answer : Answer) where
       by (Some a) e goes = merge_step-merged k a before (r ∷ items) left goes size has placed kept (ready_actor-some left a e)
 
 -- ---- ends
-
-filter_map-filter :
-    {A B : Type 0} (f : A → Option B) (p : A → Bool) → ((x : A) → p x ≡ false → f x ≡ None) → (xs : List A)
-    → filter_map f (filter p xs) ≡ filter_map f xs
-filter_map-filter f p idle [] = refl
-filter_map-filter f p idle (x ∷ xs) = by (cases_Bool (p x)) (filter_map-filter f p idle xs)
-  where
-    by : (p x ≡ true) ⊎ (p x ≡ false) → filter_map f (filter p xs) ≡ filter_map f xs → filter_map f (filter p (x ∷ xs)) ≡ filter_map f (x ∷ xs)
-    by (inl here) rest = rw here (ap (cons_option (f x)) rest)
-    by (inr none) rest = rw (none, idle x none) rest
-
-fold-filter :
-    {A B : Type 0} (f : B → A → B) (p : A → Bool) → ((b : B) (x : A) → p x ≡ false → f b x ≡ b) → (b : B) (xs : List A)
-    → fold f b (filter p xs) ≡ fold f b xs
-fold-filter f p idle b [] = refl
-fold-filter f p idle b (x ∷ xs) = by (cases_Bool (p x)) (fold-filter f p idle (f b x) xs) (fold-filter f p idle b xs)
-  where
-    by :
-        (p x ≡ true) ⊎ (p x ≡ false) → fold f (f b x) (filter p xs) ≡ fold f (f b x) xs → fold f b (filter p xs) ≡ fold f b xs
-        → fold f b (filter p (x ∷ xs)) ≡ fold f b (x ∷ xs)
-    by (inl here) more rest = rw here more
-    by (inr none) more rest = rw (none, idle b x none) rest
 
 value_of-idle : (q : ℕ) (x : Item) → (actor_of x == q) ≡ false → value_of q x ≡ None
 value_of-idle q (item.Access a) h = rw h refl
@@ -243,14 +236,6 @@ own-items m xs ys q h = record {
 
 -- ---- the whole
 
-first_none : (a b : Option Bad) → bad_or a b ≡ None → a ≡ None
-first_none None b h = refl
-first_none (Some x) b h = absurd cc
-
-pub whole_kept : (m : Machine) (answer : Answer) (items : List Item) (ends : List Ended) → Good m answer items ends → bad_after m answer [] 0 items ≡ None
-unfolding first_bad
-whole_kept m answer items ends good = first_none (bad_after m answer [] 0 items) (bad_ends m items ends) good
-
 pub merges-good : (m : Machine) (answer : Answer) → MergesAreGood m answer
 unfolding merged
 merges-good m answer items journals ends has good = record {
@@ -269,7 +254,8 @@ merges-good m answer items journals ends has good = record {
     is = ap (λ k. merge_from k journals) (items_left-length items journals has)
 
     result : IsMerged m answer [] items journals (merge_from (length items) journals)
-    result = merge_from-merged m answer (length items) [] items journals refl has tt (kept-from m answer [] 0 items (whole_kept m answer items ends good))
+    result = merge_from-merged m answer (length items) [] items journals refl has tt
+        (kept-from m answer [] 0 items (good-items m answer items ends good))
 
     in_order : (q : ℕ) → q < m.nodes → is_in_order m (merged journals) ends q ≡ true
     in_order q inside =

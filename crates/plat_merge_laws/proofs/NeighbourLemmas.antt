@@ -1,6 +1,7 @@
 -- what two neighbours of a good history are to each other where the first need not stand before the second, and that they may
 -- then change places
-use Rattle.std.specs.Prelude.{◌≡◌, ◌≢◌, ◌⊎◌, ℕ, ◌+◌, ◌==◌, nat_lt, nat_le, ◌&&◌, ◌||◌, if◌then◌else◌, Bool, true, false, List, [], ◌∷◌, ◌++◌, None}
+use Rattle.std.specs.Prelude.{◌≡◌, ◌≢◌, ◌⊎◌, ℕ, ◌+◌, ◌==◌, nat_lt, nat_le, ◌&&◌, ◌||◌, if◌then◌else◌, Bool, true, false, List, [], ◌∷◌}
+use Rattle.std.specs.Prelude.{◌++◌, None}
 use Rattle.std.proofs.Common.{refl, ap, sym, ◌∙◌, inl, inr, arith}
 use Rattle.std.proofs.lemmas.Bool.{cases_Bool, and_parts, eqb-true, eq-eqb, ne_eqb}
 use Rattle.std.proofs.lemmas.Bool.Decides.{nat_tests}
@@ -19,11 +20,14 @@ use Rattle.plat_base.specs.declared.items.Item.TheVariants as item
 use Rattle.plat_base.specs.declared.statuses.Rule.TheVariants as rule
 use Rattle.plat_events.specs.Shown.{actor_of}
 use Rattle.plat_events.specs.Merges.{comes_before, comes_before_access, comes_before_change}
-use Rattle.plat_laws.proofs.ItemLaws.{list_any-push, flat_writes-append, seq_of-change}
-use Rattle.plat_laws.proofs.AccessLaws.{access_parts, not_removed, kept_rule}
+use Rattle.plat_laws.proofs.ItemLaws.{flat_writes-append, seq_of-change}
+use Rattle.plat_laws.proofs.AccessLaws.{access_parts, not_removed}
 use Rattle.plat_laws.proofs.ChangeLaws.{good_change}
 use Rattle.plat_merge_laws.proofs.ReadLemmas.{SameRemovals, bad_rule-access, bad_rule-change, bad_rule-applied, bad_rule-switch}
-use Rattle.plat_merge_laws.proofs.SwapLemmas.{Same, own-idle, own-back, word-idle, word-back, page-idle, page-back, own-swapped, word-swapped, page-swapped, removals-swapped}
+use Rattle.plat_merge_laws.proofs.SwapLemmas.{Same, own-idle, own-back, word-idle, word-back, page-idle, page-back, own-swapped}
+use Rattle.plat_merge_laws.proofs.SwapLemmas.{word-swapped, page-swapped, removals-swapped}
+use Rattle.plat_base.proofs.RuleLemmas.{unless-none}
+use Rattle.plat_base.proofs.ListLemmas.{list_any-push}
 
 -- ---- what the rules say of versions and numbers
 
@@ -32,13 +36,15 @@ pub version-counts :
     (m : Machine) (answer : Answer) (before : List Item) (a : Access) → bad_rule m answer before (item.Access a) ≡ None
     → a.version ≡ flat_writes before a.page a.word + writes_made a.kind
 version-counts m answer before a kept =
-    eqb-true a.version (flat_writes before a.page a.word + writes_made a.kind) (and_parts (nat_lt a.page m.pages && nat_lt a.word m.words && a.old == flat_value m before a.page a.word) (a.version == flat_writes before a.page a.word + writes_made a.kind) (access_parts m answer before a kept).2).1
+    eqb-true a.version (flat_writes before a.page a.word + writes_made a.kind)
+    (and_parts (nat_lt a.page m.pages && nat_lt a.word m.words && a.old == flat_value m before a.page a.word)
+    (a.version == flat_writes before a.page a.word + writes_made a.kind) (access_parts m answer before a kept).2).1
 
 -- the number of a change counts the changes of its page
 pub seq-counts :
     (m : Machine) (answer : Answer) (before : List Item) (c : Change) → bad_rule m answer before (item.Change c) ≡ None
     → c.seq ≡ seq_of before c.page
-seq-counts m answer before c kept = (good_change m answer before c (kept_rule (is_chained m answer before c) rule.Chain kept)).seq
+seq-counts m answer before c kept = (good_change m answer before c (unless-none (is_chained m answer before c) rule.Chain kept)).seq
 
 -- ---- two accesses
 
@@ -69,7 +75,8 @@ module _ (m : Machine) (answer : Answer) (before : List Item) where
     where
       counted :
           same_cell b a ≡ true
-          → a.version ≡ (if is_write b.kind then flat_writes before b.page b.word + 1 else flat_writes before b.page b.word) + writes_made a.kind
+          → a.version ≡ (if is_write b.kind then flat_writes before b.page b.word + 1 else flat_writes before b.page b.word)
+          + writes_made a.kind
       counted same =
           let p : b.page ≡ a.page = eqb-true b.page a.page (and_parts (b.page == a.page) (b.word == a.word) same).0 in
           let w : b.word ≡ a.word = eqb-true b.word a.word (and_parts (b.page == a.page) (b.word == a.word) same).1 in
@@ -78,7 +85,8 @@ module _ (m : Machine) (answer : Answer) (before : List Item) where
         where
           by :
               (writes : Bool) → b.page ≡ a.page → b.word ≡ a.word
-              → (if writes && b.page == a.page && b.word == a.word then flat_writes before a.page a.word + 1 else flat_writes before a.page a.word)
+              → (if writes && b.page == a.page && b.word == a.word then flat_writes before a.page a.word + 1
+              else flat_writes before a.page a.word)
               ≡ if writes then flat_writes before b.page b.word + 1 else flat_writes before b.page b.word
           by writes p w = rw (p, w, eq-eqb a.page a.page refl, eq-eqb a.word a.word refl) (at_once writes)
             where
@@ -109,7 +117,8 @@ module _ (m : Machine) (answer : Answer) (before : List Item) where
 
   -- ---- what one of them reads, the other does not write
 
-  unwritten : (b a : Access) → (same_cell b a ≡ false) ⊎ ((is_write b.kind ≡ false) × (is_write a.kind ≡ false)) → writes_word a.page a.word (item.Access b) ≡ false
+  unwritten : (b a : Access) → (same_cell b a ≡ false) ⊎ ((is_write b.kind ≡ false) × (is_write a.kind ≡ false)) →
+      writes_word a.page a.word (item.Access b) ≡ false
   unfolding same_cell
   unwritten b a (inl other) = by (is_write b.kind) (b.page == a.page) (b.word == a.word) other
     where
@@ -119,7 +128,8 @@ module _ (m : Machine) (answer : Answer) (before : List Item) where
       by true false w h = refl
   unwritten b a (inr loads) = rw loads.0 refl
 
-  unwritten_back : (b a : Access) → (same_cell b a ≡ false) ⊎ ((is_write b.kind ≡ false) × (is_write a.kind ≡ false)) → writes_word b.page b.word (item.Access a) ≡ false
+  unwritten_back : (b a : Access) → (same_cell b a ≡ false) ⊎ ((is_write b.kind ≡ false) × (is_write a.kind ≡ false)) →
+      writes_word b.page b.word (item.Access a) ≡ false
   unfolding same_cell
   unwritten_back b a (inl other) = grind (arith, nat_tests)
   unwritten_back b a (inr loads) = rw loads.1 refl
@@ -169,13 +179,16 @@ false-left false c h = refl
 false-left true c h = absurd cc
 
 -- what was not removed by the end was not removed before
-later-before : (test : Removed → Bool) (before : List Item) (x : Item) (page seq : ℕ) → later test (before ++ x ∷ []) page seq ≡ false → later test before page seq ≡ false
+later-before : (test : Removed → Bool) (before : List Item) (x : Item) (page seq : ℕ) → later test (before ++ x ∷ []) page seq ≡ false →
+    later test before page seq ≡ false
 later-before test before x page seq h =
-    false-left (later test before page seq) (is_later_change test page seq x) (sym (list_any-push (is_later_change test page seq) before x) ∙ h)
+    false-left (later test before page seq) (is_later_change test page seq x) (sym (list_any-push (is_later_change test page seq) before x)
+    ∙ h)
 
 -- an item that removes nothing leaves what was not removed
 later-after :
-    (test : Removed → Bool) (before : List Item) (x : Item) (page seq : ℕ) → later test before page seq ≡ false → is_later_change test page seq x ≡ false
+    (test : Removed → Bool) (before : List Item) (x : Item) (page seq : ℕ) → later test before page seq ≡ false →
+    is_later_change test page seq x ≡ false
     → later test (before ++ x ∷ []) page seq ≡ false
 later-after test before x page seq h k = list_any-push (is_later_change test page seq) before x ∙ rw (h, k) refl
 
@@ -193,10 +206,12 @@ removal-parts true true true writes both h = absurd cc
 
 -- a change that the access need not stand before took nothing of it away
 removed-nothing : (b : Access) (i : Item) → comes_before (item.Access b) i ≡ false
-    → (is_later_change removes_all b.page b.grant i ≡ false) × (is_write b.kind ≡ true → is_later_change removes_writes b.page b.grant i ≡ false)
+    → (is_later_change removes_all b.page b.grant i ≡ false)
+    × (is_write b.kind ≡ true → is_later_change removes_writes b.page b.grant i ≡ false)
 removed-nothing b (item.Access a) free = (refl, λ w. refl)
 removed-nothing b (item.Change c) free =
-    let parts = removal-parts (b.page == c.page) (nat_lt b.grant c.seq) (removes_all c.removed) (is_write b.kind) (removes_writes c.removed) free in
+    let parts = removal-parts (b.page == c.page) (nat_lt b.grant c.seq) (removes_all c.removed) (is_write b.kind) (removes_writes c.removed)
+    free in
     let turned : (c.page == b.page) ≡ (b.page == c.page) = turn (c.page) (b.page)
     in (
       ap (λ t. t && nat_lt b.grant c.seq && removes_all c.removed) turned ∙ parts.0,
@@ -229,14 +244,16 @@ module _ (m : Machine) (answer : Answer) (before : List Item) where
       removals (word-back (word-idle m before j a.page a.word (written-none m answer before j a kept_j kept_i free)))
       ∙ kept_i
     where
-      there : (later removes_all (before ++ j ∷ []) a.page a.grant ≡ false) × (is_write a.kind ≡ true → later removes_writes (before ++ j ∷ []) a.page a.grant ≡ false)
+      there : (later removes_all (before ++ j ∷ []) a.page a.grant ≡ false)
+          × (is_write a.kind ≡ true → later removes_writes (before ++ j ∷ []) a.page a.grant ≡ false)
       there = not_removed m answer (before ++ j ∷ []) a kept_i
 
       removals : SameRemovals before (before ++ j ∷ []) a
       removals = record {
         all = later-before removes_all before j a.page a.grant there.0 ∙ sym there.0;
         writes =
-            both-false (is_write a.kind) (later removes_writes before a.page a.grant) (later removes_writes (before ++ j ∷ []) a.page a.grant)
+            both-false (is_write a.kind) (later removes_writes before a.page a.grant)
+            (later removes_writes (before ++ j ∷ []) a.page a.grant)
             (λ w. later-before removes_writes before j a.page a.grant (there.1 w)) there.1;
       }
   first-kept j (item.Change d) apart free kept_j kept_i =
@@ -244,9 +261,11 @@ module _ (m : Machine) (answer : Answer) (before : List Item) where
       (page-back (page-idle m before j d.page (changed-none m answer before j d kept_j kept_i free)))
       ∙ kept_i
   first-kept j (item.Applied x) apart free kept_j kept_i =
-      bad_rule-applied m answer before (before ++ j ∷ []) x (own-back (own-idle m before j x.actor (ne_eqb (actor_of j) x.actor apart))) ∙ kept_i
+      bad_rule-applied m answer before (before ++ j ∷ []) x (own-back (own-idle m before j x.actor (ne_eqb (actor_of j) x.actor apart)))
+      ∙ kept_i
   first-kept j (item.Switch s) apart free kept_j kept_i =
-      bad_rule-switch m answer before (before ++ j ∷ []) s (own-back (own-idle m before j s.actor (ne_eqb (actor_of j) s.actor apart))) ∙ kept_i
+      bad_rule-switch m answer before (before ++ j ∷ []) s (own-back (own-idle m before j s.actor (ne_eqb (actor_of j) s.actor apart)))
+      ∙ kept_i
 
   second-kept :
       (j i : Item) → actor_of i ≢ actor_of j → comes_before j i ≡ false → bad_rule m answer before j ≡ None
@@ -256,18 +275,21 @@ module _ (m : Machine) (answer : Answer) (before : List Item) where
       removals (word-idle m before i b.page b.word (written_back-none m answer before b i kept_j kept_i free))
       ∙ kept_j
     where
-      there : (later removes_all before b.page b.grant ≡ false) × (is_write b.kind ≡ true → later removes_writes before b.page b.grant ≡ false)
+      there : (later removes_all before b.page b.grant ≡ false)
+          × (is_write b.kind ≡ true → later removes_writes before b.page b.grant ≡ false)
       there = not_removed m answer before b kept_j
 
       nothing :
-          (is_later_change removes_all b.page b.grant i ≡ false) × (is_write b.kind ≡ true → is_later_change removes_writes b.page b.grant i ≡ false)
+          (is_later_change removes_all b.page b.grant i ≡ false)
+          × (is_write b.kind ≡ true → is_later_change removes_writes b.page b.grant i ≡ false)
       nothing = removed-nothing b i free
 
       removals : SameRemovals (before ++ i ∷ []) before b
       removals = record {
         all = later-after removes_all before i b.page b.grant there.0 nothing.0 ∙ sym there.0;
         writes =
-            both-false (is_write b.kind) (later removes_writes (before ++ i ∷ []) b.page b.grant) (later removes_writes before b.page b.grant)
+            both-false (is_write b.kind) (later removes_writes (before ++ i ∷ []) b.page b.grant)
+            (later removes_writes before b.page b.grant)
             (λ w. later-after removes_writes before i b.page b.grant (there.1 w) (nothing.1 w)) there.1;
       }
   second-kept (item.Change c) i apart free kept_j kept_i =

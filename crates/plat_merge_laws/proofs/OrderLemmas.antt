@@ -1,10 +1,12 @@
 -- what stands behind an item of a good history need not stand before it
-use Rattle.std.specs.Prelude.{◌≡◌, ◌⊎◌, ℕ, ◌+◌, ◌<◌, ◌≤◌, ◌==◌, nat_lt, nat_le, ◌&&◌, ◌||◌, if◌then◌else◌, Bool, true, false, List, [], ◌∷◌, ◌++◌, Option, Some, None}
+use Rattle.std.specs.Prelude.{◌≡◌, ◌⊎◌, ℕ, ◌+◌, ◌<◌, ◌≤◌, ◌==◌, nat_lt, nat_le, ◌&&◌, ◌||◌, if◌then◌else◌, Bool, true, false, List, [], ◌∷◌}
+use Rattle.std.specs.Prelude.{◌++◌, Option, Some, None}
 use Rattle.std.proofs.Common.{refl, ap, sym, ◌∙◌, inl, inr, arith}
 use Rattle.std.specs.List.{fold, list_any}
-use Rattle.std.proofs.lemmas.Bool.{and_parts, eqb-true, true≢false}
+use Rattle.std.proofs.lemmas.Bool.{and_parts, eqb-true, true≢false, or_right, or_left, or_cases}
 use Rattle.std.proofs.lemmas.Bool.Decides.{nat_tests}
 use Rattle.std.proofs.lemmas.List.Folds.{list_any-append}
+use Rattle.std.proofs.Math.Bool.{and-false}
 use Rattle.plat_base.specs.Verdicts.{Answer}
 use Rattle.plat_base.specs.Machine.{Machine}
 use Rattle.plat_base.specs.Accesses.{writes_made}
@@ -42,11 +44,13 @@ written-counts :
     (before between : List Item) (a : Access)
     → flat_writes before a.page a.word + writes_made a.kind ≤ flat_writes (before ++ item.Access a ∷ between) a.page a.word
 written-counts before between a =
-    let rise = writes-rise a.page a.word (if writes_word a.page a.word (item.Access a) then flat_writes before a.page a.word + 1 else flat_writes before a.page a.word) between in
+    let rise = writes-rise a.page a.word (if writes_word a.page a.word (item.Access a) then flat_writes before a.page a.word + 1
+    else flat_writes before a.page a.word) between in
     let here = counted (is_write a.kind) (flat_writes before a.page a.word) in
     omega (arith, flat_writes-append before (item.Access a ∷ between) a.page a.word, rise, here)
   where
-    counted : (writes : Bool) (n : ℕ) → n + (if writes then 1 else 0) ≡ (if writes && a.page == a.page && a.word == a.word then n + 1 else n)
+    counted : (writes : Bool) (n : ℕ) →
+        n + (if writes then 1 else 0) ≡ (if writes && a.page == a.page && a.word == a.word then n + 1 else n)
     counted true n = grind (arith, nat_tests)
     counted false n = omega arith
 
@@ -79,29 +83,18 @@ seq-stays before between x page = omega (arith, seq_of-append before (x ∷ betw
 
 -- ---- case by case
 
-or-right : (b c : Bool) → c ≡ true → (b || c) ≡ true
-or-right true c h = refl
-or-right false c h = h
-
-or-left : (b c : Bool) → b ≡ true → (b || c) ≡ true
-or-left true c h = refl
-or-left false c h = absurd cc
-
-either : (b c : Bool) → (b || c) ≡ true → (b ≡ true) ⊎ (c ≡ true)
-either true c h = inl refl
-either false c h = inr h
-
 pub not-both : (b c : Bool) → (b ≡ true → c ≡ true → ⊥) → (b && c) ≡ false
 not-both true true h = absurd (h refl refl)
 not-both true false h = refl
 not-both false c h = refl
 
-later-here : (test : Removed → Bool) (before between : List Item) (c : Change) (page seq : ℕ) → is_later_change test page seq (item.Change c) ≡ true
+later-here : (test : Removed → Bool) (before between : List Item) (c : Change) (page seq : ℕ) →
+    is_later_change test page seq (item.Change c) ≡ true
     → later test (before ++ item.Change c ∷ between) page seq ≡ true
 later-here test before between c page seq h =
     list_any-append (is_later_change test page seq) before (item.Change c ∷ between)
-    ∙ or-right (later test before page seq) (list_any (is_later_change test page seq) (item.Change c ∷ between))
-    (or-left (is_later_change test page seq (item.Change c)) (list_any (is_later_change test page seq) between) h)
+    ∙ or_right (later test before page seq) (list_any (is_later_change test page seq) (item.Change c ∷ between))
+    (or_left (is_later_change test page seq (item.Change c)) (list_any (is_later_change test page seq) between) h)
 
 module _ (m : Machine) (answer : Answer) (before between : List Item) where
   -- an access behind an access
@@ -109,7 +102,8 @@ module _ (m : Machine) (answer : Answer) (before between : List Item) where
       (a b : Access) → bad_rule m answer before (item.Access a) ≡ None
       → bad_rule m answer (before ++ item.Access a ∷ between) (item.Access b) ≡ None → comes_before_access b a ≡ false
   access-access a b kept_a kept_b =
-      not-both (b.page == a.page && b.word == a.word) (if is_write a.kind then nat_lt b.version a.version else is_write b.kind && nat_le b.version a.version)
+      not-both (b.page == a.page && b.word == a.word) (if is_write a.kind then nat_lt b.version a.version
+      else is_write b.kind && nat_le b.version a.version)
       (λ same. by (is_write a.kind) (is_write b.kind) (first refl) (then_ refl (and_parts (b.page == a.page) (b.word == a.word) same)))
     where
       first : (is_write a.kind ≡ is_write a.kind) → a.version ≡ flat_writes before a.page a.word + writes_made a.kind
@@ -121,8 +115,10 @@ module _ (m : Machine) (answer : Answer) (before between : List Item) where
       then_ e same =
           let p : b.page ≡ a.page = eqb-true b.page a.page same.0 in
           let w : b.word ≡ a.word = eqb-true b.word a.word same.1 in
-          let count : flat_writes (before ++ item.Access a ∷ between) b.page b.word ≡ flat_writes (before ++ item.Access a ∷ between) a.page a.word =
-          ap (λ x. flat_writes (before ++ item.Access a ∷ between) x b.word) p ∙ ap (flat_writes (before ++ item.Access a ∷ between) a.page) w in
+          let count : flat_writes (before ++ item.Access a ∷ between) b.page b.word
+          ≡ flat_writes (before ++ item.Access a ∷ between) a.page a.word =
+          ap (λ x. flat_writes (before ++ item.Access a ∷ between) x b.word) p
+          ∙ ap (flat_writes (before ++ item.Access a ∷ between) a.page) w in
           omega (arith, version-counts m answer (before ++ item.Access a ∷ between) b kept_b, count, written-counts before between a)
 
       by :
@@ -156,10 +152,13 @@ module _ (m : Machine) (answer : Answer) (before between : List Item) where
 
   -- an access behind a change
   access-change :
-      (d : Change) (b : Access) → bad_rule m answer (before ++ item.Change d ∷ between) (item.Access b) ≡ None → comes_before_removal b d ≡ false
+      (d : Change) (b : Access) → bad_rule m answer (before ++ item.Change d ∷ between) (item.Access b) ≡ None →
+      comes_before_removal b d ≡ false
   access-change d b kept_b =
-      not-both (b.page == d.page && nat_lt b.grant d.seq) (removes_all d.removed || (is_write b.kind && removes_writes d.removed)) (λ older removes.
-      by (and_parts (b.page == d.page) (nat_lt b.grant d.seq) older) (either (removes_all d.removed) (is_write b.kind && removes_writes d.removed) removes))
+      not-both (b.page == d.page && nat_lt b.grant d.seq) (removes_all d.removed || (is_write b.kind && removes_writes d.removed))
+      (λ older removes.
+      by (and_parts (b.page == d.page) (nat_lt b.grant d.seq) older)
+      (or_cases (removes_all d.removed) (is_write b.kind && removes_writes d.removed) removes))
     where
       there :
           (later removes_all (before ++ item.Change d ∷ between) b.page b.grant ≡ false)
@@ -169,12 +168,14 @@ module _ (m : Machine) (answer : Answer) (before between : List Item) where
       is_later :
           (test : Removed → Bool) → (b.page == d.page) ≡ true → nat_lt b.grant d.seq ≡ true → test d.removed ≡ true
           → is_later_change test b.page b.grant (item.Change d) ≡ true
-      is_later test same older removes = rw (older, removes) (let turned : (d.page == b.page) ≡ true = grind (arith, nat_tests) in rw turned refl)
+      is_later test same older removes = rw (older, removes) (let turned : (d.page == b.page) ≡ true = grind (arith, nat_tests) in
+          rw turned refl)
 
       by :
           ((b.page == d.page) ≡ true) × (nat_lt b.grant d.seq ≡ true)
           → (removes_all d.removed ≡ true) ⊎ ((is_write b.kind && removes_writes d.removed) ≡ true) → ⊥
-      by at (inl all) = true≢false (sym (later-here removes_all before between d b.page b.grant (is_later removes_all at.0 at.1 all)) ∙ there.0)
+      by at (inl all) = true≢false (sym (later-here removes_all before between d b.page b.grant (is_later removes_all at.0 at.1 all))
+          ∙ there.0)
       by at (inr writes) =
           let w = and_parts (is_write b.kind) (removes_writes d.removed) writes in
           true≢false (sym (later-here removes_writes before between d b.page b.grant (is_later removes_writes at.0 at.1 w.1)) ∙ there.1 w.0)
@@ -215,13 +216,9 @@ module _ (m : Machine) (answer : Answer) (before between : List Item) where
 pub itself-not_before : (r : Item) → comes_before r r ≡ false
 itself-not_before (item.Access a) = by (is_write a.kind) a.version
   where
-    last_false : (b : Bool) → (b && false) ≡ false
-    last_false true = refl
-    last_false false = refl
-
     by : (writes : Bool) (n : ℕ) → (a.page == a.page && a.word == a.word && (if writes then nat_lt n n else writes && nat_le n n)) ≡ false
-    by true n = let none : nat_lt n n ≡ false = grind (arith, nat_tests) in rw none (last_false (a.page == a.page && a.word == a.word))
-    by false n = last_false (a.page == a.page && a.word == a.word)
+    by true n = let none : nat_lt n n ≡ false = grind (arith, nat_tests) in rw none (and-false (a.page == a.page && a.word == a.word))
+    by false n = and-false (a.page == a.page && a.word == a.word)
 itself-not_before (item.Change c) = not-both (c.page == c.page) (nat_lt c.seq c.seq) (λ same older. grind (arith, nat_tests))
 itself-not_before (item.Applied x) = refl
 itself-not_before (item.Switch s) = refl

@@ -1,6 +1,7 @@
 -- what the rule of an item reads of the items before it: its actor's own items, the writes of its word, the changes of its
 -- page, and whether a later change took its translation away
-use Rattle.std.specs.Prelude.{◌≡◌, ℕ, zero, suc, ◌/◌, ◌==◌, nat_lt, nat_le, ◌&&◌, ◌||◌, not, if◌then◌else◌, Bool, List, Option, Some, None, is_none}
+use Rattle.std.specs.Prelude.{◌≡◌, ℕ, zero, suc, ◌/◌, ◌==◌, nat_lt, nat_le, ◌&&◌, ◌||◌, not, if◌then◌else◌, Bool, List, Option, Some, None}
+use Rattle.std.specs.Prelude.{is_none}
 use Rattle.std.proofs.Common.{refl, ap, ◌∙◌}
 use Rattle.plat_base.specs.Verdicts.{Answer}
 use Rattle.plat_base.specs.Machine.{Machine}
@@ -13,7 +14,9 @@ use Rattle.plat_base.specs.Decide.{decide, may_decide, is_frame}
 use Rattle.plat_base.specs.Held.{held, held_through, active, has_right, later, removes_all, removes_writes}
 use Rattle.plat_base.specs.Alike.{same_cause, same_dir}
 use Rattle.plat_base.specs.Ends.{ended_of}
-use Rattle.plat_base.specs.Rules.{next_operation, is_access_next, is_switch_next, has_daemon, is_decided, is_ordered_access, entry_of_access, is_grant_of, is_granted, is_legal, is_fault_of, is_fault_decision, is_fault_change, is_thaw_change, is_chained, stands, wants_operation, wants_right, is_end, is_in_order, unless, bad_rule}
+use Rattle.plat_base.specs.Rules.{next_operation, is_access_next, is_switch_next, has_daemon, is_decided, is_ordered_access}
+use Rattle.plat_base.specs.Rules.{entry_of_access, is_grant_of, is_granted, is_legal, is_fault_of, is_fault_decision, is_fault_change}
+use Rattle.plat_base.specs.Rules.{is_thaw_change, is_chained, stands, wants_operation, wants_right, is_end, is_in_order, unless, bad_rule}
 use Rattle.plat_base.specs.declared.endings.End.{End}
 use Rattle.plat_base.specs.declared.endings.End.TheVariants as end
 use Rattle.plat_base.specs.declared.endings.Ended.{Ended}
@@ -72,7 +75,8 @@ module _ (m : Machine) (xs ys : List Item) (q : ℕ) (same : SameOwn m xs ys q) 
 
   wants_right-same : (w : Want) → wants_right m xs q w ≡ wants_right m ys q w
   wants_right-same want.Local = refl
-  wants_right-same (want.Access kind space addr operand) = ap (λ t. not (has_right kind t)) (held_through-same (entry_at m space (addr / m.words)))
+  wants_right-same (want.Access kind space addr operand) =
+      ap (λ t. not (has_right kind t)) (held_through-same (entry_at m space (addr / m.words)))
   wants_right-same (want.Switch space) = refl
   wants_right-same (want.Print value) = refl
   wants_right-same want.Halted = refl
@@ -93,7 +97,8 @@ module _ (m : Machine) (xs ys : List Item) (q : ℕ) (same : SameOwn m xs ys q) 
 
 -- ---- the rules of an access
 
-is_ordered_access-same : (m : Machine) (xs ys : List Item) (a : Access) → SameOwn m xs ys a.actor → is_ordered_access m xs a ≡ is_ordered_access m ys a
+is_ordered_access-same : (m : Machine) (xs ys : List Item) (a : Access) → SameOwn m xs ys a.actor →
+    is_ordered_access m xs a ≡ is_ordered_access m ys a
 is_ordered_access-same m xs ys a own =
     ap (λ o. nat_lt a.actor m.nodes && is_frame m a.frame && is_access_next o a) (next_operation-same m xs ys a.actor own)
 
@@ -104,15 +109,18 @@ is_granted-same :
     (m : Machine) (xs ys : List Item) (a : Access) → SameOwn m xs ys a.actor → SameRemovals xs ys a → is_granted m xs a ≡ is_granted m ys a
 unfolding granted_by
 is_granted-same m xs ys a own removals =
-    ap (λ t. granted_by a t (later removes_all xs a.page a.grant) (is_write a.kind && later removes_writes xs a.page a.grant)) (held_through-same m xs ys a.actor own (entry_of_access m a))
-    ∙ (ap (λ b. granted_by a (held_through m ys a.actor (entry_of_access m a)) b (is_write a.kind && later removes_writes xs a.page a.grant)) removals.all
+    ap (λ t. granted_by a t (later removes_all xs a.page a.grant) (is_write a.kind && later removes_writes xs a.page a.grant))
+    (held_through-same m xs ys a.actor own (entry_of_access m a))
+    ∙ (ap (λ b. granted_by a (held_through m ys a.actor (entry_of_access m a)) b
+    (is_write a.kind && later removes_writes xs a.page a.grant)) removals.all
     ∙ ap (λ b. granted_by a (held_through m ys a.actor (entry_of_access m a)) (later removes_all ys a.page a.grant) b) removals.writes)
 
 is_legal-same : (m : Machine) (xs ys : List Item) (a : Access) → SameWord m xs ys a.page a.word → is_legal m xs a ≡ is_legal m ys a
 is_legal-same m xs ys a same = rw (same.value, same.writes) refl
 
 pub bad_rule-access :
-    (m : Machine) (answer : Answer) (xs ys : List Item) (a : Access) → SameOwn m xs ys a.actor → SameRemovals xs ys a → SameWord m xs ys a.page a.word
+    (m : Machine) (answer : Answer) (xs ys : List Item) (a : Access) → SameOwn m xs ys a.actor → SameRemovals xs ys a →
+    SameWord m xs ys a.page a.word
     → bad_rule m answer xs (item.Access a) ≡ bad_rule m answer ys (item.Access a)
 bad_rule-access m answer xs ys a own removals same =
     rw (is_ordered_access-same m xs ys a own, is_granted-same m xs ys a own removals, is_legal-same m xs ys a same) refl
@@ -142,7 +150,9 @@ is_thaw_change-same :
     (m : Machine) (answer : Answer) (xs ys : List Item) (c : Change) → SamePage xs ys c.page
     → is_thaw_change m answer xs c ≡ is_thaw_change m answer ys c
 is_thaw_change-same m answer xs ys c page =
-    ap (λ last. has_daemon m.policy && same_cause c.cause cause.Thaw && is_none c.granted && may_decide m answer c.before last c.time c.actor cause.Thaw None && is_decided (decide m answer c.before last c.time c.actor cause.Thaw None) c) page.last
+    ap (λ last. has_daemon m.policy && same_cause c.cause cause.Thaw && is_none c.granted
+    && may_decide m answer c.before last c.time c.actor cause.Thaw None
+    && is_decided (decide m answer c.before last c.time c.actor cause.Thaw None) c) page.last
 
 chained_by : Machine → Change → ℕ → Bool → Bool → Bool → Bool
 chained_by m c seq dir fault thaw =
@@ -156,10 +166,14 @@ bad_rule-change m answer xs ys c own page = ap (λ b. unless b rule.Chain) chain
   where
     chained : is_chained m answer xs c ≡ is_chained m answer ys c
     chained =
-        ap (λ n. chained_by m c n (same_dir c.before (dir_of xs c.page)) (is_fault_change m answer xs c c.granted) (is_thaw_change m answer xs c)) page.seq
-        ∙ (ap (λ d. chained_by m c (seq_of ys c.page) (same_dir c.before d) (is_fault_change m answer xs c c.granted) (is_thaw_change m answer xs c)) page.dir
-        ∙ (ap (λ b. chained_by m c (seq_of ys c.page) (same_dir c.before (dir_of ys c.page)) b (is_thaw_change m answer xs c)) (is_fault_change-same m answer xs ys c c.granted own page)
-        ∙ ap (λ b. chained_by m c (seq_of ys c.page) (same_dir c.before (dir_of ys c.page)) (is_fault_change m answer ys c c.granted) b) (is_thaw_change-same m answer xs ys c page)))
+        ap (λ n. chained_by m c n (same_dir c.before (dir_of xs c.page)) (is_fault_change m answer xs c c.granted)
+        (is_thaw_change m answer xs c)) page.seq
+        ∙ (ap (λ d. chained_by m c (seq_of ys c.page) (same_dir c.before d) (is_fault_change m answer xs c c.granted)
+        (is_thaw_change m answer xs c)) page.dir
+        ∙ (ap (λ b. chained_by m c (seq_of ys c.page) (same_dir c.before (dir_of ys c.page)) b (is_thaw_change m answer xs c))
+        (is_fault_change-same m answer xs ys c c.granted own page)
+        ∙ ap (λ b. chained_by m c (seq_of ys c.page) (same_dir c.before (dir_of ys c.page)) (is_fault_change m answer ys c c.granted) b)
+        (is_thaw_change-same m answer xs ys c page)))
 
 -- ---- the rules of a message and of a switch
 

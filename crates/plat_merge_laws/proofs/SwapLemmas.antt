@@ -14,8 +14,12 @@ use Rattle.plat_base.specs.declared.items.Removed.{Removed}
 use Rattle.plat_base.specs.declared.items.Item.{Item}
 use Rattle.plat_base.specs.declared.items.Item.TheVariants as item
 use Rattle.plat_events.specs.Shown.{actor_of}
-use Rattle.plat_laws.proofs.ItemLaws.{or-false, list_any-push, is_by, held-not_mine, values_of-not_mine, operations_of-not_mine, values_of-append, operations_of-append, held-append, active-append, flat_value-append, flat_writes-append, dir_of-append, seq_of-append, last_of-append}
-use Rattle.plat_merge_laws.proofs.ReadLemmas.{SameOwn, SameWord, SamePage, bad_rule-access, bad_rule-change, bad_rule-applied, bad_rule-switch}
+use Rattle.plat_laws.proofs.ItemLaws.{or-false, is_by, held-not_mine, values_of-not_mine, operations_of-not_mine}
+use Rattle.plat_laws.proofs.ItemLaws.{values_of-append, operations_of-append, held-append, active-append, flat_value-append}
+use Rattle.plat_laws.proofs.ItemLaws.{flat_writes-append, dir_of-append, seq_of-append, last_of-append}
+use Rattle.plat_merge_laws.proofs.ReadLemmas.{SameOwn, SameWord, SamePage, bad_rule-access, bad_rule-change, bad_rule-applied}
+use Rattle.plat_merge_laws.proofs.ReadLemmas.{bad_rule-switch}
+use Rattle.plat_base.proofs.ListLemmas.{list_any-push}
 
 -- ---- the same in all that a rule may read
 
@@ -32,7 +36,8 @@ module _ (m : Machine) (xs ys : List Item) (x : Item) where
   own-more q h = record {
     values = values_of-append q xs (x ∷ []) ∙ (ap (λ vs. vs ++ values_of q (x ∷ [])) h.values ∙ sym (values_of-append q ys (x ∷ [])));
     operations =
-        operations_of-append q xs (x ∷ []) ∙ (ap (λ os. os ++ operations_of q (x ∷ [])) h.operations ∙ sym (operations_of-append q ys (x ∷ [])));
+        operations_of-append q xs (x ∷ [])
+        ∙ (ap (λ os. os ++ operations_of q (x ∷ [])) h.operations ∙ sym (operations_of-append q ys (x ∷ [])));
     holds = λ e. held-append m xs (x ∷ []) q e ∙ (ap (λ t. held_after m q e t x) (h.holds e) ∙ sym (held-append m ys (x ∷ []) q e));
     is_in = active-append m xs (x ∷ []) q ∙ (ap (λ s. active_after q s x) h.is_in ∙ sym (active-append m ys (x ∷ []) q));
   }
@@ -98,7 +103,8 @@ module _ (m : Machine) (xs : List Item) (x : Item) where
   pub word-idle : (page word : ℕ) → writes_word page word x ≡ false → SameWord m (xs ++ x ∷ []) xs page word
   word-idle page word h = record {
     value = flat_value-append m xs (x ∷ []) page word ∙ ap (λ (b : Bool). if b then written x else flat_value m xs page word) h;
-    writes = flat_writes-append xs (x ∷ []) page word ∙ ap (λ (b : Bool). if b then flat_writes xs page word + 1 else flat_writes xs page word) h;
+    writes = flat_writes-append xs (x ∷ []) page word
+        ∙ ap (λ (b : Bool). if b then flat_writes xs page word + 1 else flat_writes xs page word) h;
   }
 
   pub page-idle : (page : ℕ) → change_of page x ≡ None → SamePage (xs ++ x ∷ []) xs page
@@ -124,7 +130,8 @@ own-then h k = record {
 pub word-back : {m : Machine} {xs ys : List Item} {page word : ℕ} → SameWord m xs ys page word → SameWord m ys xs page word
 word-back h = record { value = sym h.value; writes = sym h.writes }
 
-word-then : {m : Machine} {xs ys zs : List Item} {page word : ℕ} → SameWord m xs ys page word → SameWord m ys zs page word → SameWord m xs zs page word
+word-then : {m : Machine} {xs ys zs : List Item} {page word : ℕ} → SameWord m xs ys page word → SameWord m ys zs page word →
+    SameWord m xs zs page word
 word-then h k = record { value = h.value ∙ k.value; writes = h.writes ∙ k.writes }
 
 pub page-back : {xs ys : List Item} {page : ℕ} → SamePage xs ys page → SamePage ys xs page
@@ -148,15 +155,18 @@ module _ (m : Machine) (xs : List Item) (j i : Item) where
       by (inl mine) =
           let other : (actor_of i == q) ≡ false = ne_eqb (actor_of i) q (λ e. apart (eqb-true (actor_of j) q mine ∙ sym e)) in
           own-then (own-idle m (xs ++ j ∷ []) i q other) (own-back (own-more m (xs ++ i ∷ []) xs j q (own-idle m xs i q other)))
-      by (inr other) = own-then (own-more m (xs ++ j ∷ []) xs i q (own-idle m xs j q other)) (own-back (own-idle m (xs ++ i ∷ []) j q other))
+      by (inr other) = own-then (own-more m (xs ++ j ∷ []) xs i q (own-idle m xs j q other))
+          (own-back (own-idle m (xs ++ i ∷ []) j q other))
 
   pub word-swapped :
       (page word : ℕ) → (writes_word page word j ≡ false) ⊎ (writes_word page word i ≡ false)
       → SameWord m ((xs ++ j ∷ []) ++ i ∷ []) ((xs ++ i ∷ []) ++ j ∷ []) page word
   word-swapped page word (inl h) =
-      word-then (word-more m (xs ++ j ∷ []) xs i page word (word-idle m xs j page word h)) (word-back (word-idle m (xs ++ i ∷ []) j page word h))
+      word-then (word-more m (xs ++ j ∷ []) xs i page word (word-idle m xs j page word h))
+      (word-back (word-idle m (xs ++ i ∷ []) j page word h))
   word-swapped page word (inr h) =
-      word-then (word-idle m (xs ++ j ∷ []) i page word h) (word-back (word-more m (xs ++ i ∷ []) xs j page word (word-idle m xs i page word h)))
+      word-then (word-idle m (xs ++ j ∷ []) i page word h)
+      (word-back (word-more m (xs ++ i ∷ []) xs j page word (word-idle m xs i page word h)))
 
   pub page-swapped :
       (page : ℕ) → (change_of page j ≡ None) ⊎ (change_of page i ≡ None)
@@ -167,7 +177,8 @@ module _ (m : Machine) (xs : List Item) (j i : Item) where
       page-then (page-idle m (xs ++ j ∷ []) i page h) (page-back (page-more m (xs ++ i ∷ []) xs j page (page-idle m xs i page h)))
 
   pub removals-swapped :
-      (test : Removed → Bool) (page seq : ℕ) → later test ((xs ++ j ∷ []) ++ i ∷ []) page seq ≡ later test ((xs ++ i ∷ []) ++ j ∷ []) page seq
+      (test : Removed → Bool) (page seq : ℕ) → later test ((xs ++ j ∷ []) ++ i ∷ []) page seq
+      ≡ later test ((xs ++ i ∷ []) ++ j ∷ []) page seq
   removals-swapped test page seq =
       let f = is_later_change test page seq in
       list_any-push f (xs ++ j ∷ []) i

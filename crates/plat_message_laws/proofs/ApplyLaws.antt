@@ -1,5 +1,6 @@
 -- a message that a scan applies keeps the invariant
-use Rattle.std.specs.Prelude.{◌≡◌, ◌≢◌, ◌⊎◌, ℕ, ◌+◌, ◌<◌, if◌then◌else◌, true, [], ◌∷◌, Option, Some, None, IsTrue, slice_get, slice_index, bit_and}
+use Rattle.std.specs.Prelude.{◌≡◌, ◌≢◌, ◌⊎◌, ℕ, ◌+◌, ◌<◌, if◌then◌else◌, [], ◌∷◌, Option, Some, None, IsTrue, slice_get, slice_index}
+use Rattle.std.specs.Prelude.{bit_and}
 use Rattle.std.proofs.Common.{refl, ap, sym, ◌∙◌, inl, inr, arith, subst}
 use Rattle.std.proofs.lemmas.Bool.{cases_eq}
 use Rattle.std.proofs.lemmas.Bool.Decides.{nat_tests}
@@ -7,7 +8,7 @@ use Rattle.std.proofs.lemmas.List.{get_or-set_other}
 use Rattle.plat_base.specs.Verdicts.{Answer}
 use Rattle.plat_base.specs.Machine.{Machine}
 use Rattle.plat_base.specs.Flat.{flat_value, flat_writes}
-use Rattle.plat_base.specs.Rules.{Good, bad_rule, is_end}
+use Rattle.plat_base.specs.Rules.{Good, bad_rule}
 use Rattle.plat_base.specs.declared.frames.Frame.{Frame}
 use Rattle.plat_base.specs.declared.endings.End.{End}
 use Rattle.plat_base.specs.declared.items.Applied.{Applied}
@@ -27,19 +28,17 @@ use Rattle.plat_events.specs.Privates.{Onward, Place, Applying, Ticking, Exchang
 use Rattle.plat_events.specs.Scans.{entry_scanned, scan_from}
 use Rattle.plat_events.specs.Events.{at, apply_message, named_next, with_item}
 use Rattle.plat_events.specs.Kept.{session_behind, has_left, word_at, private_of}
-use Rattle.plat_events.specs.Runs.{Fine, event, end_at, ends_of}
-use Rattle.plat_events.specs.Shown.{items_by, act_of, kind_for, frame_word, IsReachedAlone, Shows}
+use Rattle.plat_events.specs.Runs.{Fine, event, ends_of}
+use Rattle.plat_events.specs.Shown.{act_of, kind_for, frame_word, IsReachedAlone, Shows}
 use Rattle.plat_local_laws.specs.Words.{CountersLeft, LeavesWord}
 use Rattle.plat_local_laws.specs.Alone.{PrivateOk}
 use Rattle.plat_local_laws.proofs.WordLaws.{reached_leaves}
 use Rattle.plat_local_laws.proofs.PrivateLaws.{private_ok}
-use Rattle.plat_local_laws.proofs.OrderLaws.{cut_in_order}
 use Rattle.plat_local_laws.proofs.RuleLaws.{answered}
 use Rattle.plat_fine_laws.specs.Changes.{Changes, GoesOn, KeepsFlat, IsBy, ShowsEntries}
 use Rattle.plat_fine_laws.proofs.ActorFieldLaws.{each-private}
-use Rattle.plat_fine_laws.proofs.JournalLaws.{items_by-own}
+use Rattle.plat_fine_laws.proofs.MadeLaws.{good-made}
 use Rattle.plat_fine_laws.proofs.EndFieldLaws.{turns-still, live-still}
-use Rattle.plat_fine_laws.proofs.GoodLaws.{good-next}
 use Rattle.plat_fine_laws.proofs.ReachedLaws.{reached-moved}
 use Rattle.plat_fine_laws.proofs.KeepLaws
 use Rattle.plat_message_laws.proofs.FoundLaws.{finds}
@@ -173,18 +172,7 @@ module _ (m : Machine) (answer : Answer) (s : Fine) (a i : ℕ) (msg : Message) 
 
   good : Good m answer t.history (ends_of m t.privates)
   good =
-      let journal : items_by a (with_item s.history (Some made)) ≡ next.journal =
-      items_by-own a s.history (Some made) by-actor ∙ ap (λ j. with_item j (Some made)) (sym (shows.journals_are_history a within)) in
-      let cut : is_end m (with_item s.history (Some made)) a (end_at next.place) next.turns ≡ true =
-      ap (λ e. is_end m (with_item s.history (Some made)) a e next.turns) leads.ended
-      ∙ cut_in_order m answer a next (with_item s.history (Some made)) alone_after processor (sym journal) in
-      let ok = good-next m s.privates a (private_of m s a) next processor (omega (arith, shows.all_privates)) here-now answer s.history
-      (Some made) shows.history_good by-actor (λ j is. subst (λ k. bad_rule m answer s.history k ≡ None) (same_item j is) rule)
-      alone_after.standing.turns_most cut in
-      rw (made-changes.history, made-changes.privates) ok
-    where
-      same_item : (j : Item) → Some made ≡ Some j → made ≡ j
-      same_item j is = cc
+      good-made m answer s t a name value next made shows within processor made-changes by-actor refl rule alone_after leads.ended
 
   acts : (q : ℕ) → q < m.nodes → word_at m t (word.Act q) ≡ act_of (private_of m t q)
   acts q inside =

@@ -1,6 +1,7 @@
 -- the state behind a message that a scan applied: its words, and what it shows of processors and entries, but for the entry of
 -- the message
-use Rattle.std.specs.Prelude.{◌≡◌, ◌≢◌, ◌⊎◌, ℕ, ◌+◌, ◌<◌, ◌==◌, ◌&&◌, not, nat_lt, if◌then◌else◌, Bool, true, false, length, Option, Some, None, is_some, IsTrue, slice_get, bit_and}
+use Rattle.std.specs.Prelude.{◌≡◌, ◌≢◌, ◌⊎◌, ℕ, ◌+◌, ◌<◌, ◌==◌, ◌&&◌, not, nat_lt, if◌then◌else◌, Bool, true, false, length, Option, Some}
+use Rattle.std.specs.Prelude.{None, is_some, IsTrue, slice_get, bit_and}
 use Rattle.std.proofs.Common.{refl, ap, sym, ◌∙◌, inl, inr, arith, subst}
 use Rattle.std.specs.Option.{option_map, option_map_or}
 use Rattle.std.proofs.lemmas.Bool.{cases_eq, eq-eqb, ne_eqb, true≢false}
@@ -31,7 +32,8 @@ use Rattle.plat_events.specs.Privates.{Onward, Place, Looking, Applying, Private
 use Rattle.plat_events.specs.Scans.{entry_scanned, go_on, scan_from, look_place}
 use Rattle.plat_events.specs.Events.{at, apply_message, applied_item, with_item}
 use Rattle.plat_events.specs.Kept.{running_of, session_on, session_of, session_behind, has_left, message_at, word_at, private_of}
-use Rattle.plat_events.specs.Views.{EntryOk, HeldOk, InvalidateStays, view, view_of, session_view, page_view, held_view, agrees, translation_of, place_view, is_restrict}
+use Rattle.plat_events.specs.Views.{EntryOk, HeldOk, InvalidateStays, view, view_of, session_view, page_view, held_view, agrees}
+use Rattle.plat_events.specs.Views.{translation_of, place_view, is_restrict}
 use Rattle.plat_events.specs.Runs.{Fine, event}
 use Rattle.plat_events.specs.Shown.{actor_of, Shows}
 use Rattle.plat_local_laws.specs.Standing.{ScanningOk}
@@ -46,9 +48,11 @@ use Rattle.plat_fine_laws.proofs.ScanLaws.{look-scans}
 use Rattle.plat_fine_laws.proofs.ViewFieldLaws.{page_view-same}
 use Rattle.plat_fine_laws.proofs.Footprints.{apply-changes}
 use Rattle.plat_fine_laws.proofs.KeepLaws
-use Rattle.plat_message_laws.proofs.ToldLaws.{view_of-bits, told-lacks, leaves-applied, held-applied, KeepsBits, others-bits}
+use Rattle.plat_message_laws.proofs.ToldLaws.{view_of-bits, leaves-applied, held-applied, KeepsBits, others-bits}
 use Rattle.plat_message_laws.proofs.FoundLaws.{Finds, finds}
 use Rattle.plat_message_laws.proofs.FoundLaws
+use Rattle.plat_local_laws.proofs.PmapLaws.{told-lacks}
+use Rattle.plat_words.proofs.Masks.{has_bit-none}
 
 -- ---- places
 
@@ -62,14 +66,11 @@ scan_from-message m x turns space i moment onward = by (nat_lt i (length (entrie
     by true = refl
     by false = (go_on-plain m x turns onward).message
 
-no_bit : (place : ℕ) → has_bit 0 place ≡ false
-no_bit place = ap (λ b. b == 1) (bit_at-zero place)
-
 -- a look at a mask without bits goes on
 look-clear :
     (m : Machine) (a : ℕ) (p : Private) (i : ℕ) (moment : Moment) (onward : Onward) →
     look_place m a p i moment onward 0 ≡ scan_from m p.turns p.guest.space (i + 1) moment onward
-look-clear m a p i moment onward = by (has_invalidate 0 a) (has_restrict 0 a) (no_bit (8 + a)) (no_bit (16 + a))
+look-clear m a p i moment onward = by (has_invalidate 0 a) (has_restrict 0 a) (has_bit-none (8 + a)) (has_bit-none (16 + a))
   where
     by : (b c : Bool) → b ≡ false → c ≡ false →
         (if b then Applying i message.Invalidate moment onward

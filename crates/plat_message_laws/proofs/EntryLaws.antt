@@ -21,10 +21,13 @@ use Rattle.plat_events.specs.Runs.{Fine, event}
 use Rattle.plat_events.specs.Shown.{Shows}
 use Rattle.plat_views.proofs.UseLaws.{restrict_answers}
 use Rattle.plat_words.proofs.Masks.{has_reference-restricted, has_invalidate-restricted}
-use Rattle.plat_message_laws.proofs.ToldLaws.{absent_ok, absent_waits, absent_held, lowered_view, lowered_ok, lowered_waits, lowered_held, told-some, told-reads, told-agrees, invalidated-reference, invalidated-invalidate, invalidated-restrict, restricted-restrict, lowered-seen}
+use Rattle.plat_message_laws.proofs.ToldLaws.{absent_held, lowered_view, lowered_ok, lowered_waits, lowered_held}
+use Rattle.plat_message_laws.proofs.ToldLaws.{told-some, told-reads, told-agrees, invalidated-reference, invalidated-invalidate}
+use Rattle.plat_message_laws.proofs.ToldLaws.{invalidated-restrict, restricted-restrict, lowered-seen}
 use Rattle.plat_message_laws.proofs.FoundLaws
 use Rattle.plat_message_laws.proofs.BehindLaws.{EntryShown}
 use Rattle.plat_message_laws.proofs.BehindLaws
+use Rattle.plat_fine_laws.proofs.StartLaws.{empty_ok, empty_waits}
 
 own-invalidated :
     (m : Machine) (answer : Answer) (s : Fine) (a i : ℕ) (moment : Moment) (onward : Onward) (limits : IsWithinLimits m)
@@ -45,9 +48,9 @@ own-invalidated m answer s a i moment onward limits shows within stands =
     record {
       reference = bits (λ b. has_reference b a) (invalidated-reference k a small) ∙ sym none;
       ok =
-          absent_ok (view m answer t a e) none (bits (λ b. has_invalidate b a) (invalidated-invalidate k a small))
+          empty_ok (view m answer t a e) none (bits (λ b. has_invalidate b a) (invalidated-invalidate k a small))
           (bits (λ b. has_restrict b a) (invalidated-restrict k a small)) (quiet is_restrict);
-      waits = absent_waits (view m answer t a e) (quiet (λ x. not (is_restrict x)));
+      waits = empty_waits (view m answer t a e) (quiet (λ x. not (is_restrict x)));
       same = absent_held (view m answer t a e) (held_view m t a e) none lost;
     }
 

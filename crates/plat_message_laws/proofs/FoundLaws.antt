@@ -3,7 +3,7 @@
 use Rattle.std.specs.Prelude.{◌≡◌, ℕ, ◌<◌, ◌==◌, ◌&&◌, not, Bool, true, false, Option, Some, None, is_some, slice_get, IsTrue}
 use Rattle.std.proofs.Common.{refl, ap, sym, ◌∙◌, arith, subst}
 use Rattle.std.specs.Option.{option_map_or}
-use Rattle.std.proofs.lemmas.Bool.{and_parts, eqb-true, eq-eqb}
+use Rattle.std.proofs.lemmas.Bool.{and_parts, eqb-true, eq-eqb, false_from_ne_true}
 use Rattle.std.proofs.lemmas.Bool.Decides.{nat_tests}
 use Rattle.plat_base.specs.Verdicts.{Answer}
 use Rattle.plat_base.specs.Machine.{Machine}
@@ -39,10 +39,6 @@ pub record Finds (m : Machine) (s : Fine) (a entry : ℕ) (msg : Message) : Type
   pub has : is_some (translation_of m s a entry) ≡ true
   pub may : may_apply msg (translation_of m s a entry) ≡ true
   pub may_held : may_apply msg (held m s.history a entry) ≡ true
-
-not-so : (b : Bool) → (b ≡ true → ⊥) → b ≡ false
-not-so true h = absurd (h refl)
-not-so false h = refl
 
 module _ (m : Machine) (answer : Answer) (s : Fine) (a i : ℕ) (msg : Message) (moment : Moment) (onward : Onward)
     (limits : IsWithinLimits m) (shows : Shows m answer s) (within : a < actor_count m)
@@ -98,7 +94,7 @@ module _ (m : Machine) (answer : Answer) (s : Fine) (a i : ℕ) (msg : Message) 
           (session_view m answer a entry (translation_of m s a entry) o).granted ≡ false
       by None on = refl
       by (Some r) on =
-          not-so (r.actor == a && has_granted r.session entry)
+          false_from_ne_true (r.actor == a && has_granted r.session entry)
           (λ is.
           let granted : v.granted ≡ true =
           ap (λ o. (session_view m answer a entry (translation_of m s a entry) o).granted) on ∙ is in

@@ -1,7 +1,8 @@
 -- what becomes of a view and of what the history says where a message was applied
-use Rattle.std.specs.Prelude.{◌≡◌, ◌≢◌, ℕ, ◌<◌, ◌==◌, ◌&&◌, not, if◌then◌else◌, Bool, true, false, List, [], ◌∷◌, ◌++◌, Option, Some, None, is_some, bit_and}
+use Rattle.std.specs.Prelude.{◌≡◌, ◌≢◌, ℕ, ◌<◌, ◌==◌, ◌&&◌, not, if◌then◌else◌, Bool, true, false, List, [], ◌∷◌, ◌++◌, Option, Some, None}
+use Rattle.std.specs.Prelude.{is_some, bit_and}
 use Rattle.std.proofs.Common.{refl, ◌∙◌, arith}
-use Rattle.std.proofs.lemmas.Bool.{eq-eqb, ne_eqb}
+use Rattle.std.proofs.lemmas.Bool.{eq-eqb, ne_eqb, not_from_false}
 use Rattle.plat_base.specs.Verdicts.{Answer}
 use Rattle.plat_base.specs.Machine.{Machine}
 use Rattle.plat_base.specs.Copies.{same_frame}
@@ -19,21 +20,15 @@ use Rattle.plat_base.specs.declared.items.Translation.{Translation}
 use Rattle.plat_laws.proofs.ItemLaws.{dir_of-applied, seq_of-applied, last_of-applied, later-applied, held-append}
 use Rattle.plat_events.specs.Words.{has_reference, has_invalidate, has_restrict, bits_applied, all_but}
 use Rattle.plat_events.specs.Kept.{Running}
-use Rattle.plat_events.specs.Views.{View, SessionView, PlaceView, PageView, EntryOk, InvalidateStays, HeldView, HeldOk, is_marked, agrees, view_of, session_view, page_view}
+use Rattle.plat_events.specs.Views.{View, SessionView, PlaceView, PageView, EntryOk, InvalidateStays, HeldView, HeldOk, is_marked, agrees}
+use Rattle.plat_events.specs.Views.{view_of, session_view, page_view}
 use Rattle.plat_events.specs.Runs.{Fine}
-use Rattle.plat_words.proofs.Masks.{has_reference-invalidated, has_invalidate-invalidated, has_restrict-invalidated, has_reference-restricted, has_invalidate-restricted, has_restrict-restricted}
+use Rattle.plat_words.proofs.Masks.{has_reference-invalidated, has_invalidate-invalidated, has_restrict-invalidated}
+use Rattle.plat_words.proofs.Masks.{has_reference-restricted, has_invalidate-restricted, has_restrict-restricted}
 use Rattle.plat_views.specs.Steps.{apply_restrict}
 use Rattle.plat_fine_laws.specs.Changes.{LeavesDirs}
 
 -- ---- views
-
--- nothing is asked of an entry without a translation and without messages
-pub absent_ok :
-    (v : View) → v.has ≡ false → v.invalidate ≡ false → v.restrict ≡ false → v.restricting ≡ false → EntryOk v
-absent_ok v h0 h1 h2 h3 = search arith
-
-pub absent_waits : (v : View) → v.invalidating ≡ false → InvalidateStays v
-absent_waits v h0 = search arith
 
 pub absent_held : (v : View) (h : HeldView) → v.has ≡ false → h.held ≡ false → HeldOk v h
 absent_held v h h0 h1 = search arith
@@ -86,15 +81,6 @@ reads-served kind.Load t h = absurd cc
 reads-served kind.Store t h = refl
 reads-served kind.Add t h = refl
 
-pub told-lacks : (k : Kind) (msg : Message) (t : Option Translation) → has_right k t ≡ false → has_right k (told msg t) ≡ false
-told-lacks k message.Invalidate t h = refl
-told-lacks k message.Restrict None h = refl
-told-lacks k message.Restrict (Some x) h = reads-served k x h
-
-unmarked-not : (b : Bool) → b ≡ false → not b ≡ true
-unmarked-not true h = absurd cc
-unmarked-not false h = refl
-
 -- a message may be applied to a translation that is there, and a restrict to one without a mark
 pub invalidate-may : (t : Option Translation) → is_some t ≡ true → may_apply message.Invalidate t ≡ true
 invalidate-may None h = absurd cc
@@ -102,7 +88,7 @@ invalidate-may (Some x) h = refl
 
 pub restrict-may : (t : Option Translation) → is_some t ≡ true → is_marked t ≡ false → may_apply message.Restrict t ≡ true
 restrict-may None h unmarked = absurd cc
-restrict-may (Some x) h unmarked = unmarked-not x.restricted unmarked
+restrict-may (Some x) h unmarked = not_from_false x.restricted unmarked
 
 same-mark : (b c d e : Bool) → (b && c && same_bool d e) ≡ true → d ≡ false → e ≡ false
 same-mark true true true e h unmarked = absurd cc

@@ -1,5 +1,6 @@
 -- the places of a cache of translations, and the places that the count of its hits and misses sees
-use Rattle.std.specs.Prelude.{◌≡◌, ℕ, ◌+◌, ◌%◌, ◌==◌, if◌then◌else◌, Bool, true, IsTrue, List, length, map, replicate, Option, Some, None, slice_index_or, slice_set}
+use Rattle.std.specs.Prelude.{◌≡◌, ℕ, ◌+◌, ◌%◌, ◌==◌, if◌then◌else◌, Bool, true, IsTrue, List, length, map, replicate, Option, Some, None}
+use Rattle.std.specs.Prelude.{slice_index_or, slice_set}
 use Rattle.std.specs.List.{list_all}
 use Rattle.plat_base.specs.Cache.{Place, Cache, serves_access}
 use Rattle.plat_base.specs.Held.{serves}

@@ -45,7 +45,8 @@ impl Pmap {
     /// Puts the translation that the change `seq` granted in its entry's place.
     pub fn install(&mut self, grant: Grant, seq: u32)
         requires { grant.entry < length self.old }
-        ensures { self.new ≡ slice_set self.old grant.entry (Some (record { grant = grant; seq = seq; restricted = false })) }
+        ensures { self.new ≡ slice_set self.old grant.entry
+            (Some (record { grant = grant; seq = seq; restricted = false })) }
     {
         self.translations[grant.entry as usize] = Some(Translation {
             grant,
@@ -85,7 +86,11 @@ impl Pmap {
 
 /// The same translation with the right to read, and with this mark.
 fn to_read(translation: Translation, restricted: bool) -> Translation
-    ensures { result ≡ record { grant = to_read translation.grant; seq = translation.seq; restricted = restricted } }
+    ensures { result ≡ record {
+      grant = to_read translation.grant;
+      seq = translation.seq;
+      restricted = restricted;
+    } }
 {
     Translation {
         grant: Grant {

@@ -1,59 +1,37 @@
 //! A processor's translations of two entries, whose virtual pages 1 and 9 use the same place of the cache.
-ghost use Rattle.std.specs.Prelude.{◌≡◌, [], length, IfOk};
-ghost use Rattle.plat_base.specs.Machine.{program_seen};
+ghost use Rattle.std.specs.Prelude.{◌≡◌, length, IfOk};
 
 use super::*;
-use plat_base::{
-    Config, Entry, Frame, Grant, GuestText, Kind, List, OutOfMemory, Plan, PolicyKind, Right,
-    Translation,
-};
+use plat_base::{Config, Frame, Grant, Kind, OutOfMemory, PolicyKind, Right, Translation};
+use plat_samples::{Sizes, entry, idle_nodes};
 use std::alloc::Global;
 use std::test::Fail;
-
-fn guest(alloc: Global) -> GuestText
-    ensures { program_seen result ≡ record { space = 0; code = []; labels = [] } }
-{
-    GuestText {
-        space: 0,
-        code: List::new(alloc),
-        labels: List::new(alloc),
-    }
-}
 
 fn machine(alloc: Global) -> Result<Config, OutOfMemory>
     ensures { IfOk result (λ cfg. length cfg.entries.items ≡ 2) }
 {
-    let mut entries = List::with_room(alloc, 2)?;
-    entries.push(Entry {
-        space: 0,
-        vpage: 1,
-        page: 0,
-    });
-    entries.push(Entry {
-        space: 0,
-        vpage: 9,
-        page: 1,
-    });
-    let mut guests = List::with_room(alloc, 1)?;
-    guests.push(guest(alloc));
-    Ok(Config {
+    let sizes = Sizes {
         nodes: 1,
         frames: 2,
-        words: 4,
         pages: 2,
-        policy: PolicyKind::Place,
         budget: 100,
-        schedule: Plan::Robin,
-        distances: List::new(alloc),
-        entries,
-        inits: List::new(alloc),
-        guests,
-    })
+    };
+    idle_nodes(
+        alloc,
+        sizes,
+        PolicyKind::Place,
+        &[entry(1, 0), entry(9, 1)],
+        &[],
+    )
 }
 
 /// The grant of a frame of module 0 for an entry.
 fn grant(entry: u32, right: Right) -> Grant
-    ensures { result ≡ record { entry = entry; frame = record { «module» = 0; number = entry }; right = right } }
+    ensures { result ≡ record {
+      entry = entry;
+      frame = record { «module» = 0; number = entry };
+      right = right;
+    } }
 {
     Grant {
         entry,

@@ -18,10 +18,12 @@ right true true h = refl
 right true false h = absurd cc
 right false b h = absurd cc
 
-pub is_dir-may_decide : (m : Machine) (answer : Answer) (dir : Dir) (last : Option ℕ) (now node : ℕ) (cause : Cause) (got : Option Frame) → may_decide m answer dir last now node cause got ≡ true → IsTrue (is_dir m dir)
+pub is_dir-may_decide : (m : Machine) (answer : Answer) (dir : Dir) (last : Option ℕ) (now node : ℕ) (cause : Cause) (got : Option Frame) →
+    may_decide m answer dir last now node cause got ≡ true → IsTrue (is_dir m dir)
 is_dir-may_decide m answer dir last now node cause got h = left (is_dir m dir) (fits_cause m answer dir last now node cause got) h
 
-pub fits_cause-may_decide : (m : Machine) (answer : Answer) (dir : Dir) (last : Option ℕ) (now node : ℕ) (cause : Cause) (got : Option Frame) → may_decide m answer dir last now node cause got ≡ true → IsTrue (fits_cause m answer dir last now node cause got)
+pub fits_cause-may_decide : (m : Machine) (answer : Answer) (dir : Dir) (last : Option ℕ) (now node : ℕ) (cause : Cause)
+    (got : Option Frame) → may_decide m answer dir last now node cause got ≡ true → IsTrue (fits_cause m answer dir last now node cause got)
 fits_cause-may_decide m answer dir last now node cause got h = right (is_dir m dir) (fits_cause m answer dir last now node cause got) h
 
 pub ruleset may = (is_dir-may_decide, fits_cause-may_decide)

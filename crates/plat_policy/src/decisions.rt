@@ -27,7 +27,8 @@ pub fn decide<P: Policy>(
 ) -> Decision
     requires dir { IsTrue (is_dir (machine cfg.now) dir.now) }
     requires node { cause ≢ Cause.Thaw → node < cfg.now.nodes }
-    requires fits { IsTrue (fits_cause (machine cfg.now) (P.answer policy.now) dir.now last now node cause got) }
+    requires fits { IsTrue (fits_cause (machine cfg.now) (P.answer policy.now) dir.now last now node cause
+        got) }
     ensures { result ≡ decide (machine cfg.now) (P.answer policy.now) dir.now last now node cause got }
 {
     if cause == Cause::Thaw {
@@ -83,7 +84,8 @@ fn row_does(
     got: Option<Frame>,
 ) -> Decision
     requires dir { IsTrue (is_dir (machine cfg.now) dir.now) }
-    requires fits { IsTrue (row_fits (machine cfg.now) (row_seen row) dir.now.state (copy_on node dir.now.copies) node got) }
+    requires fits { IsTrue (row_fits (machine cfg.now) (row_seen row) dir.now.state
+        (copy_on node dir.now.copies) node got) }
     ensures { result ≡ row_does (machine cfg.now) (row_seen row) dir.now frozen node got }
 {
     match row {
@@ -111,7 +113,8 @@ fn row_does(
 fn fill(state: State, frozen: bool, frame: Frame) -> Decision
     requires module { frame.module < 8 }
     requires number { frame.number < 64 }
-    ensures { result ≡ decision Action.Fill Removed.Nothing (after_with state frozen (frame ∷ [])) false frame }
+    ensures { result ≡ decision Action.Fill Removed.Nothing (after_with state frozen (frame ∷ [])) false
+        frame }
 {
     Decision {
         action: Action::Fill,
@@ -128,14 +131,16 @@ fn fill(state: State, frozen: bool, frame: Frame) -> Decision
 
 /// The copies stay, and the node's own is mapped.
 fn map_local(dir: &Dir, state: State, frozen: bool, frame: Frame) -> Decision
-    ensures { result ≡ decision Action.MapLocal Removed.Nothing (after_with state frozen dir.now.copies) false frame }
+    ensures { result ≡ decision Action.MapLocal Removed.Nothing (after_with state frozen dir.now.copies) false
+        frame }
 {
     map(Action::MapLocal, dir, state, frozen, frame)
 }
 
 /// The copies stay, and one on another node is mapped.
 fn map_remote(dir: &Dir, state: State, frozen: bool, frame: Frame) -> Decision
-    ensures { result ≡ decision Action.MapRemote Removed.Nothing (after_with state frozen dir.now.copies) false frame }
+    ensures { result ≡ decision Action.MapRemote Removed.Nothing (after_with state frozen dir.now.copies)
+        false frame }
 {
     map(Action::MapRemote, dir, state, frozen, frame)
 }
@@ -161,7 +166,8 @@ fn map(action: Action, dir: &Dir, state: State, frozen: bool, frame: Frame) -> D
 fn replicate(removed: Removed, dir: &Dir, frozen: bool, frame: Frame) -> Decision
     requires module { frame.module < 8 }
     requires number { frame.number < 64 }
-    ensures { result ≡ decision Action.Replicate removed (after_with State.PresentPlus frozen (with_frame frame dir.now.copies)) false frame }
+    ensures { result ≡ decision Action.Replicate removed
+        (after_with State.PresentPlus frozen (with_frame frame dir.now.copies)) false frame }
 {
     Decision {
         action: Action::Replicate,
@@ -180,7 +186,8 @@ fn replicate(removed: Removed, dir: &Dir, frozen: bool, frame: Frame) -> Decisio
 fn keep_one(action: Action, frozen: bool, frame: Frame) -> Decision
     requires module { frame.module < 8 }
     requires number { frame.number < 64 }
-    ensures { result ≡ decision action Removed.All (after_with State.Modified frozen (frame ∷ [])) true frame }
+    ensures { result ≡ decision action Removed.All (after_with State.Modified frozen (frame ∷ [])) true
+        frame }
 {
     Decision {
         action,
@@ -198,7 +205,8 @@ fn keep_one(action: Action, frozen: bool, frame: Frame) -> Decision
 /// The page is frozen no more. Its copies stay, and no translation leads to them.
 fn thaw(dir: &Dir) -> Decision
     requires { 0 < length dir.now.copies }
-    ensures { result ≡ decision Action.Thaw Removed.All (after_with (thawed_state dir.now.state) false dir.now.copies) false (first_frame dir.now.copies) }
+    ensures { result ≡ decision Action.Thaw Removed.All
+        (after_with (thawed_state dir.now.state) false dir.now.copies) false (first_frame dir.now.copies) }
 {
     let state = match dir.state {
         State::Modified => State::Present1,

@@ -1,37 +1,30 @@
 //! Worked decisions, on a machine of four nodes where node 3 is far from nodes 0 and 1.
 ghost use Rattle.std.specs.Prelude.{◌≡◌, [], IfOk};
-ghost use Rattle.plat_base.specs.Machine.{program_seen};
 
 use super::*;
 use plat_base::{
-    Action, Cause, Config, Copies, Decision, Dir, Distance, Frame, GuestText, List, OutOfMemory,
+    Action, Cause, Config, Copies, Decision, Dir, Distance, Entries, Frame, List, OutOfMemory,
     Plan, Policy, PolicyKind, Removed, State, Verdict,
 };
+use plat_samples::{idle_guests, listed};
 use std::alloc::Global;
 use std::process::Abort;
 use std::test::Fail;
 
-fn guest(alloc: Global) -> GuestText
-    ensures { program_seen result ≡ record { space = 0; code = []; labels = [] } }
+fn no_entries(alloc: Global) -> Result<Entries, OutOfMemory>
+    ensures { IfOk result (λ entries. entries.items ≡ []) }
 {
-    GuestText {
-        space: 0,
-        code: List::new(alloc),
-        labels: List::new(alloc),
-    }
+    Entries::new(alloc, List::new(alloc))
 }
+
+const DISTANCES: [Distance; 2] = [Distance { a: 3, b: 0, d: 5 }, Distance { a: 3, b: 1, d: 5 }];
 
 fn machine(alloc: Global) -> Result<Config, OutOfMemory>
     ensures { IfOk result (λ cfg. cfg.nodes ≡ 4) }
 {
-    let mut distances = List::with_room(alloc, 2)?;
-    distances.push(Distance { a: 3, b: 0, d: 5 });
-    distances.push(Distance { a: 3, b: 1, d: 5 });
-    let mut guests = List::with_room(alloc, 4)?;
-    guests.push(guest(alloc));
-    guests.push(guest(alloc));
-    guests.push(guest(alloc));
-    guests.push(guest(alloc));
+    let distances = listed(alloc, &DISTANCES)?;
+    let entries = no_entries(alloc)?;
+    let guests = idle_guests(alloc, 4)?;
     Ok(Config {
         nodes: 4,
         frames: 4,
@@ -41,7 +34,7 @@ fn machine(alloc: Global) -> Result<Config, OutOfMemory>
         budget: 100,
         schedule: Plan::Robin,
         distances,
-        entries: List::new(alloc),
+        entries,
         inits: List::new(alloc),
         guests,
     })

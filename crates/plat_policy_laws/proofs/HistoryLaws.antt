@@ -17,7 +17,8 @@ use Rattle.plat_base.specs.declared.items.Item.{Item}
 use Rattle.plat_base.specs.declared.items.Item.TheVariants as item
 use Rattle.plat_laws.proofs.ItemLaws.{is_applied, all_applied, filter_map-still}
 use Rattle.plat_policy_laws.specs.Meaning.{Meant, meant, items_meant, Meaning, meaning}
-use Rattle.plat_policy_laws.specs.FlatRun.{writes_meant, written_meant, value_meant, word_after, writes_after, values_meant, FlatRun, flat_guest, flat_meaning}
+use Rattle.plat_policy_laws.specs.FlatRun.{writes_meant, written_meant, value_meant, word_after, writes_after, values_meant, FlatRun}
+use Rattle.plat_policy_laws.specs.FlatRun.{flat_guest, flat_meaning}
 
 -- ---- folds that what is meant decides
 

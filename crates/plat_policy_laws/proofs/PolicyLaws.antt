@@ -4,7 +4,8 @@ use Rattle.std.proofs.Common.{refl, ap, sym, ◌∙◌, subst}
 use Rattle.plat_base.specs.Verdicts.{Answer}
 use Rattle.plat_base.specs.Machine.{Machine}
 use Rattle.plat_base.specs.Pages.{numbers, program_of, entry_at}
-use Rattle.plat_base.specs.GuestRun.{GuestState, GuestRun, Outcome, GoesOn, HasHalted, HasTrapped, reach_of, wanted, wanted_next, want_of, value_for, with_access, guest_does, guest_more, guest_run}
+use Rattle.plat_base.specs.GuestRun.{GuestState, GuestRun, Outcome, GoesOn, HasHalted, HasTrapped, reach_of, wanted, wanted_next, want_of}
+use Rattle.plat_base.specs.GuestRun.{value_for, with_access, guest_does, guest_more, guest_run}
 use Rattle.plat_base.specs.Ends.{ended_of, end_after}
 use Rattle.plat_base.specs.Schedule.{Chooser, scheduled, coarse_run}
 use Rattle.plat_base.specs.Rules.{HasEnoughFrames}
@@ -18,7 +19,8 @@ use Rattle.plat_base.specs.declared.policies.PolicyKind.{PolicyKind}
 use Rattle.plat_laws.specs.Guests.{IsWithinLimits}
 use Rattle.plat_coarse_laws.proofs.TurnLaws.{run_sound, sound-no_frames}
 use Rattle.plat_policy_laws.specs.Meaning.{Meant, meaning, StarvesNobody, with_policy, DifferInPolicy}
-use Rattle.plat_policy_laws.specs.FlatRun.{FlatRun, FlatMade, values_meant, flat_reached, flat_made_by, with_flat, flat_guest, flat_turn, FlatScheduled, flat_choice, flat_scheduled_turn, flat_scheduled, flat_run, flat_meaning}
+use Rattle.plat_policy_laws.specs.FlatRun.{FlatRun, FlatMade, values_meant, flat_reached, flat_made_by, with_flat, flat_guest, flat_turn}
+use Rattle.plat_policy_laws.specs.FlatRun.{FlatScheduled, flat_choice, flat_scheduled_turn, flat_scheduled, flat_run, flat_meaning}
 use Rattle.plat_policy_laws.proofs.HistoryLaws.{map-same, meaning-parts}
 use Rattle.plat_policy_laws.proofs.RunLaws.{scheduled-meaning}
 

@@ -1,5 +1,6 @@
 -- a coarse run that starves nobody means what the run on flat memory means
-use Rattle.std.specs.Prelude.{◌≡◌, ◌≢◌, ℕ, zero, suc, ◌+◌, ◌<◌, ◌/◌, if◌then◌else◌, Bool, true, false, List, [], ◌∷◌, ◌++◌, length, slice_set, Option, Some, None}
+use Rattle.std.specs.Prelude.{◌≡◌, ◌≢◌, ℕ, zero, suc, ◌+◌, ◌<◌, ◌/◌, if◌then◌else◌, Bool, true, false, List, [], ◌∷◌, ◌++◌, length}
+use Rattle.std.specs.Prelude.{slice_set, Option, Some, None}
 use Rattle.std.proofs.Common.{refl, ap, ◌∙◌, arith, ⊎_elim}
 use Rattle.std.specs.List.{fold}
 use Rattle.std.proofs.lemmas.Bool.{cases_eq}
@@ -16,7 +17,8 @@ use Rattle.plat_base.specs.Ends.{ended_of, is_live, time_of, end_after}
 use Rattle.plat_base.specs.Coarse.{Coarse}
 use Rattle.plat_base.specs.Frames.{is_starved}
 use Rattle.plat_base.specs.Messages.{interrupts, switch_items}
-use Rattle.plat_base.specs.Turns.{Made, made, decided, fault_items, fault_made, access_made, made_reached, made_by, with_made, guest_now, thaw_items, thaw, is_pass, daemon, turn}
+use Rattle.plat_base.specs.Turns.{Made, made, decided, fault_items, fault_made, access_made, made_reached, made_by, with_made, guest_now}
+use Rattle.plat_base.specs.Turns.{thaw_items, thaw, is_pass, daemon, turn}
 use Rattle.plat_base.specs.Schedule.{Chooser, Scheduled, choose, live_processors, with_choice, scheduled}
 use Rattle.plat_base.specs.declared.frames.Frame.{Frame}
 use Rattle.plat_base.specs.declared.endings.End.TheVariants as end
@@ -29,10 +31,13 @@ use Rattle.plat_base.specs.declared.items.Translation.{Translation}
 use Rattle.plat_base.specs.declared.policies.Decision.{Decision}
 use Rattle.plat_laws.proofs.EndLaws.{is_live-below, is_live-cut}
 use Rattle.plat_coarse_laws.proofs.MessageLaws.{interrupts-applied, activations, activations-applied}
-use Rattle.plat_coarse_laws.proofs.RunLaws.{ended_of-set_same, ended_of-set_other, after_turn, made_in, turn-ends, choose-live, scheduled-length}
+use Rattle.plat_coarse_laws.proofs.RunLaws.{ended_of-set_same, ended_of-set_other, after_turn, made_in, turn-ends, choose-live}
+use Rattle.plat_coarse_laws.proofs.RunLaws.{scheduled-length}
 use Rattle.plat_policy_laws.specs.Meaning.{Meant, items_meant, Switched, meaning, StarvesNobody}
-use Rattle.plat_policy_laws.specs.FlatRun.{FlatMade, flat_made, flat_access, flat_reached, flat_made_by, with_flat, flat_turn, FlatScheduled, flat_choice, flat_scheduled_turn, flat_scheduled, flat_meaning}
-use Rattle.plat_policy_laws.proofs.HistoryLaws.{flat_value-meant, flat_writes-meant, items_meant-append, items_meant-applied, flat_of, guest_now-flat, meaning-flat}
+use Rattle.plat_policy_laws.specs.FlatRun.{FlatMade, flat_made, flat_access, flat_reached, flat_made_by, with_flat, flat_turn}
+use Rattle.plat_policy_laws.specs.FlatRun.{FlatScheduled, flat_choice, flat_scheduled_turn, flat_scheduled, flat_meaning}
+use Rattle.plat_policy_laws.proofs.HistoryLaws.{flat_value-meant, flat_writes-meant, items_meant-append, items_meant-applied, flat_of}
+use Rattle.plat_policy_laws.proofs.HistoryLaws.{guest_now-flat, meaning-flat}
 
 -- ---- what a turn adds
 

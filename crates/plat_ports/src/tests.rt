@@ -3,36 +3,31 @@ ghost use Rattle.std.specs.Prelude.{◌≡◌, ◌<◌, None, IfSome, length, sl
 ghost use Rattle.plat_ports.specs.Ports.{words_after};
 
 use super::*;
-use plat_base::{Config, GuestText, List, Op, OutOfMemory, Plan, PolicyKind};
+use plat_base::{Config, GuestText, List, Op, OutOfMemory, PolicyKind};
+use plat_samples::{Sizes, one_guest, small};
 use std::alloc::Global;
 use std::test::Fail;
 
 /// The machine. It has eleven words: two, an active space, interrupts, a directory, a stamp, a pool, and four of a frame.
-fn small(alloc: Global) -> Result<Config, OutOfMemory> {
-    let mut guests = List::with_room(alloc, 1)?;
-    guests.push(GuestText {
+fn one_node(alloc: Global) -> Result<Config, OutOfMemory> {
+    let sizes = Sizes {
+        nodes: 1,
+        frames: 1,
+        pages: 1,
+        budget: 64,
+    };
+    let text = GuestText {
         space: 2,
         code: List::new(alloc),
         labels: List::new(alloc),
-    });
-    Ok(Config {
-        nodes: 1,
-        frames: 1,
-        words: 4,
-        pages: 1,
-        policy: PolicyKind::Place,
-        budget: 64,
-        schedule: Plan::Robin,
-        distances: List::new(alloc),
-        entries: List::new(alloc),
-        inits: List::new(alloc),
-        guests,
-    })
+    };
+    let guests = one_guest(alloc, text)?;
+    small(alloc, sizes, PolicyKind::Place, &[], &[], guests)
 }
 
 #[test]
 fn each_operation_changes_one_word(rt: HostRuntime) -> Result<(), Fail> {
-    let cfg = small(rt.alloc())?;
+    let cfg = one_node(rt.alloc())?;
     let mut port = VecPort::new(rt.alloc(), &cfg)?;
     assert_eq!(rt; port.words(), [0, 1, 3, 0, 0, 0, 1, 0, 0, 0, 0].as_slice());
     assert_eq!(rt; port.apply(0, Op::Sub(1)), 0);
@@ -60,7 +55,7 @@ fn load<P: WordPort>(port: &mut P, at: usize) -> u64
 
 #[test]
 fn operations_are_kept(rt: HostRuntime) -> Result<(), Fail> {
-    let cfg = small(rt.alloc())?;
+    let cfg = one_node(rt.alloc())?;
     let mut port = RecordPort::new(rt.alloc(), &cfg, 1)?;
     assert_eq!(rt; load(&mut port, 2), 3);
     assert_eq!(rt; load(&mut port, 1), 1);

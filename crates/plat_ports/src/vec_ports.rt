@@ -75,7 +75,7 @@ impl WordPort for VecPort {
 }
 
 /// The number of words of a machine.
-#[tactic(auto, using(plat_words::proofs::Entries::entries_most_of, crate::proofs::WordLemmas::data_most))]
+#[tactic(auto, using(plat_base::proofs::EntryLimits::entries_most_of, crate::proofs::WordLemmas::data_most))]
 fn count(cfg: &Config) -> usize
     ensures { result ≡ word_count (machine cfg.now) }
 {

@@ -15,8 +15,10 @@ use Rattle.plat_base.specs.declared.words.Op.TheVariants as op
 use Rattle.plat_base.specs.declared.words.WordName.TheVariants as word
 use Rattle.plat_events.specs.Words.{has_reference, is_locked, dir_read, lock_place}
 use Rattle.plat_events.specs.Places.{entry_count}
-use Rattle.plat_events.specs.Shootdowns.{Shot, Posting, PostingOn, Asking, Interrupting, Watching, AskingAgain, Shoot, Makes, Polls, Done, entry_posted, own_post, shot_after}
-use Rattle.plat_events.specs.Sessions.{Fault, Course, Phase, Stamping, Seeking, Taking, Returning, Shooting, Filling, Reading, Copying, Giving, Storing, Granting, Unlocking, Session, change_made}
+use Rattle.plat_events.specs.Shootdowns.{Shot, Posting, PostingOn, Asking, Interrupting, Watching, AskingAgain, Shoot, Makes, Polls, Done}
+use Rattle.plat_events.specs.Shootdowns.{entry_posted, own_post, shot_after}
+use Rattle.plat_events.specs.Sessions.{Fault, Course, Phase, Stamping, Seeking, Taking, Returning, Shooting, Filling, Reading, Copying}
+use Rattle.plat_events.specs.Sessions.{Giving, Storing, Granting, Unlocking, Session, change_made}
 use Rattle.plat_events.specs.Privates.{Place, Polling, Relock, Rewait, Ticking, Locking, InSession, Leaving, Private}
 use Rattle.plat_events.specs.Events.{named_next, next_of, placed, is_followed, at}
 use Rattle.plat_shoot.specs.ShootSeen.{ShootSeen, own_by}
@@ -29,7 +31,8 @@ use Rattle.plat_handler.specs.declared.asks.Ask.{Ask}
 use Rattle.plat_handler.specs.declared.asks.Ask.TheVariants as ask
 use Rattle.plat_handler.specs.HandlerSeen.{HandlerSeen, HandlesOn, ask_of, is_polling, is_word_asked, own_taken, removed_by}
 use Rattle.plat_handler.specs.Phases.{answer_of}
-use Rattle.plat_handler.specs.Stages.{Stage, Locks, Relocks, Runs, Rewaits, Returned, Changed, stage_shot, session_after, stage_after, place_in, stage_next, own_told, own_moved, posted_own, installed_in, installed_by, granted_by}
+use Rattle.plat_handler.specs.Stages.{Stage, Locks, Relocks, Runs, Rewaits, Returned, Changed, stage_shot, session_after, stage_after}
+use Rattle.plat_handler.specs.Stages.{place_in, stage_next, own_told, own_moved, posted_own, installed_in, installed_by, granted_by}
 use Rattle.plat_handler.specs.Fits.{StageFits, StageShoots, ShootFits}
 use Rattle.plat_handler.proofs.FaultLemmas.{HasEntry, fault-entry}
 use Rattle.plat_local_laws.proofs.NameLaws.{entry_posted-is}

@@ -16,11 +16,14 @@ use Rattle.plat_base.specs.declared.guests.Want.{Want}
 use Rattle.plat_base.specs.declared.guests.Want.TheVariants as want
 use Rattle.plat_base.specs.declared.endings.End.TheVariants as end
 use Rattle.plat_base.specs.declared.items.Translation.{Translation}
-use Rattle.plat_events.specs.Sessions.{Phase, Stamping, Seeking, Taking, Returning, Shooting, Filling, Reading, Copying, Giving, Storing, Granting, Unlocking, Session}
+use Rattle.plat_events.specs.Sessions.{Phase, Stamping, Seeking, Taking, Returning, Shooting, Filling, Reading, Copying, Giving, Storing}
+use Rattle.plat_events.specs.Sessions.{Granting, Unlocking, Session}
 use Rattle.plat_events.specs.Shootdowns.{own_post}
-use Rattle.plat_events.specs.Privates.{Place, Polling, Looking, Applying, Ticking, Switching, Loading, Expecting, Exchanging, Locking, InSession, Leaving, Lessening, Gone, LiveLooking, TimeLooking, Over, Private, translation_at}
+use Rattle.plat_events.specs.Privates.{Place, Polling, Looking, Applying, Ticking, Switching, Loading, Expecting, Exchanging, Locking}
+use Rattle.plat_events.specs.Privates.{InSession, Leaving, Lessening, Gone, LiveLooking, TimeLooking, Over, Private, translation_at}
 use Rattle.plat_events.specs.Scans.{entry_scanned}
-use Rattle.plat_events.specs.Events.{at, entry_of, vpage_of, reach_now, places_filled, look_up, turn_does, access_over, page_done, drop_own, forget_page, session_moved, moved_at}
+use Rattle.plat_events.specs.Events.{at, entry_of, vpage_of, reach_now, places_filled, look_up, turn_does, access_over, page_done, drop_own}
+use Rattle.plat_events.specs.Events.{forget_page, session_moved, moved_at}
 use Rattle.plat_events.specs.Sessions.{Course}
 use Rattle.plat_base.specs.declared.items.Removed.{Removed}
 use Rattle.plat_handler.specs.Phases.{answer_of}
@@ -31,6 +34,8 @@ use Rattle.plat_pmap.specs.Translations.{usable}
 use Rattle.plat_pmap.specs.declared.atcs.Slot.{Slot}
 use Rattle.plat_proc.specs.Cached.{slots_at, slots_forgotten, slots_in, slots_looked, slots_ticked, without_slot_of}
 use Rattle.plat_proc.proofs.GoesOnLemmas.{removed_by}
+use Rattle.plat_pmap.proofs.SlotLemmas.{place_of-without}
+use Rattle.plat_proc.proofs.ForgetLemmas.{place_of-page}
 
 -- ---- places that are emptied
 
@@ -40,23 +45,15 @@ without-if :
 without-if true s = refl
 without-if false s = refl
 
-place_of-without : (e : ℕ) (s : Option Slot) → place_of (without_slot e s) ≡ without_entry e (place_of s)
-place_of-without e None = refl
-place_of-without e (Some s) = without-if (s.entry == e) s
-
 places-without : (e : ℕ) (slots : List (Option Slot)) → map (without_entry e) (places slots) ≡ places (map (without_slot e) slots)
 places-without e [] = refl
 places-without e (x ∷ xs) = cc (place_of-without e x, places-without e xs)
-
-place_of-without_page : (m : Machine) (page : ℕ) (s : Option Slot) → place_of (without_slot_of m page s) ≡ without_page m page (place_of s)
-place_of-without_page m page None = refl
-place_of-without_page m page (Some s) = without-if (page_of m s.entry == page) s
 
 places-without_page :
     (m : Machine) (page : ℕ) (slots : List (Option Slot))
     → map (without_page m page) (places slots) ≡ places (map (without_slot_of m page) slots)
 places-without_page m page [] = refl
-places-without_page m page (x ∷ xs) = cc (place_of-without_page m page x, places-without_page m page xs)
+places-without_page m page (x ∷ xs) = cc (place_of-page m page x, places-without_page m page xs)
 
 -- ---- a look-up
 

@@ -1,5 +1,6 @@
 -- what the cache keeps after the operation of each place
-use Rattle.std.proofs.Common.{◌≡◌, ℕ, zero, suc, ◌+◌, ◌<◌, Bool, true, false, List, length, Some, None, refl, ap, sym, subst, ◌∙◌, inl, inr, replicate}
+use Rattle.std.proofs.Common.{◌≡◌, ℕ, zero, suc, ◌+◌, ◌<◌, Bool, true, false, List, length, Some, None, refl, ap, sym, subst, ◌∙◌, inl, inr}
+use Rattle.std.proofs.Common.{replicate}
 use Rattle.std.specs.Prelude.{◌==◌, nat_lt, ◌&&◌, not, if◌then◌else◌, Option, slice_get}
 use Rattle.std.proofs.lemmas.Bool.{cond_both, cases_Bool, eqb-true}
 use Rattle.plat_base.specs.Machine.{Machine}
@@ -16,12 +17,18 @@ use Rattle.plat_base.specs.declared.items.Message.TheVariants as message
 use Rattle.plat_base.specs.declared.items.Moment.{Moment}
 use Rattle.plat_base.specs.declared.items.Moment.TheVariants as moment
 use Rattle.plat_events.specs.Words.{dir_read, has_bit, has_invalidate, has_reference, has_restrict, is_locked, last_read, seq_read}
-use Rattle.plat_events.specs.Shootdowns.{Shot, Posting, PostingOn, Asking, Interrupting, Watching, AskingAgain, Shoot, Makes, Polls, Done, entry_posted, own_post, shot_after}
-use Rattle.plat_events.specs.Sessions.{Fault, Course, Phase, Stamping, Seeking, Taking, Returning, Shooting, Filling, Reading, Copying, Giving, Storing, Granting, Unlocking, Session, entry_faulted, phase_after, with_phase, with_shoot, translation_made}
-use Rattle.plat_events.specs.Privates.{Onward, NewTurn, TurnOver, Relock, Rewait, Place, Polling, Looking, Applying, Ticking, Switching, Loading, Expecting, Exchanging, Locking, InSession, Leaving, Lessening, Gone, LiveLooking, TimeLooking, Over, Private, translation_at}
+use Rattle.plat_events.specs.Shootdowns.{Shot, Posting, PostingOn, Asking, Interrupting, Watching, AskingAgain, Shoot, Makes, Polls, Done}
+use Rattle.plat_events.specs.Shootdowns.{entry_posted, own_post, shot_after}
+use Rattle.plat_events.specs.Sessions.{Fault, Course, Phase, Stamping, Seeking, Taking, Returning, Shooting, Filling, Reading, Copying}
+use Rattle.plat_events.specs.Sessions.{Giving, Storing, Granting, Unlocking, Session, entry_faulted, phase_after, with_phase, with_shoot}
+use Rattle.plat_events.specs.Sessions.{translation_made}
+use Rattle.plat_events.specs.Privates.{Onward, NewTurn, TurnOver, Relock, Rewait, Place, Polling, Looking, Applying, Ticking, Switching}
+use Rattle.plat_events.specs.Privates.{Loading, Expecting, Exchanging, Locking, InSession, Leaving, Lessening, Gone, LiveLooking}
+use Rattle.plat_events.specs.Privates.{TimeLooking, Over, Private, translation_at}
 use Rattle.plat_events.specs.Scans.{entry_scanned, turn_over, go_on, scan_from, poll_place, look_place}
 use Rattle.plat_events.specs.Kept.{session_behind, session_of}
-use Rattle.plat_events.specs.Events.{at, entry_of, reach_now, look_up, look_up_place, turn_does, access_over, lock_place_after, page_done, forget_page, drop_own, shoot_place, session_moved, moved_at}
+use Rattle.plat_events.specs.Events.{at, entry_of, reach_now, look_up, look_up_place, turn_does, access_over, lock_place_after, page_done}
+use Rattle.plat_events.specs.Events.{forget_page, drop_own, shoot_place, session_moved, moved_at}
 use Rattle.plat_handler.specs.Phases.{answer_of}
 use Rattle.plat_local_laws.specs.Phases.{ShotOk, SessionOk}
 use Rattle.plat_local_laws.specs.Standing.{PlaceOk}
@@ -33,8 +40,10 @@ use Rattle.plat_pmap.specs.Slots.{AreSlots, no_slots}
 use Rattle.plat_pmap.specs.declared.atcs.Slot.{Slot}
 use Rattle.plat_proc.specs.Cached.{slots_at, slots_forgotten, slots_in, slots_looked, slots_ticked}
 use Rattle.plat_proc.specs.Fits.{CacheFits, grants_by, removes_of}
-use Rattle.plat_proc.proofs.GoesOnLemmas.{IsBefore, removed_by, give_from-goes, fill_from-goes, copy_from-goes, with_shoot-goes, seek_from-before, pool_found-before, take-before, storing-goes}
-use Rattle.plat_proc.proofs.SlotFitsLemmas.{AllCurrent, applied-fits, current-fits, current-idle, current-same, idle-current, idle-fits, place-fits, ungranted}
+use Rattle.plat_proc.proofs.GoesOnLemmas.{IsBefore, removed_by, give_from-goes, fill_from-goes, copy_from-goes, with_shoot-goes}
+use Rattle.plat_proc.proofs.GoesOnLemmas.{seek_from-before, pool_found-before, take-before, storing-goes}
+use Rattle.plat_proc.proofs.SlotFitsLemmas.{AllCurrent, applied-fits, current-fits, current-idle, current-same, idle-current, idle-fits}
+use Rattle.plat_proc.proofs.SlotFitsLemmas.{place-fits, ungranted}
 use Rattle.plat_proc.proofs.SessionFitsLemmas.{removes, granted-fits, posted-fits, session-fits}
 use Rattle.plat_proc.proofs.LookUpLemmas.{UnlocksOk, entry-faulted, page-faulted, ticked-current, unlocked-current}
 

@@ -20,16 +20,21 @@ use Rattle.plat_base.specs.declared.words.Op.TheVariants as op
 use Rattle.plat_base.specs.declared.words.WordName.TheVariants as word
 use Rattle.plat_events.specs.Words.{lock_place, is_locked, dir_read, last_read, seq_read}
 use Rattle.plat_events.specs.Shootdowns.{Shoot, Makes, Polls, Done, own_post, shot_after, shoot_from}
-use Rattle.plat_events.specs.Sessions.{Fault, Stamp, Course, Phase, Stamping, Seeking, Taking, Returning, Shooting, Filling, Reading, Copying, Giving, Storing, Granting, Unlocking, Session, decision_of, going, give_from, fill_from, copy_from, shot_over, with_posts, with_shoot, start_course, with_frame_got, frame_taken, seek_from, pool_found, tried, phase_after, with_phase, change_made, session_next}
+use Rattle.plat_events.specs.Sessions.{Fault, Stamp, Course, Phase, Stamping, Seeking, Taking, Returning, Shooting, Filling, Reading}
+use Rattle.plat_events.specs.Sessions.{Copying, Giving, Storing, Granting, Unlocking, Session, decision_of, going, give_from, fill_from}
+use Rattle.plat_events.specs.Sessions.{copy_from, shot_over, with_posts, with_shoot, start_course, with_frame_got, frame_taken, seek_from}
+use Rattle.plat_events.specs.Sessions.{pool_found, tried, phase_after, with_phase, change_made, session_next}
 use Rattle.plat_events.specs.Privates.{Place, Polling, Relock, Rewait, Locking, InSession, Leaving, Private}
-use Rattle.plat_events.specs.Events.{named_next, is_followed, after_if, after, moved_at, item_at, at, drop_own, shoot_place, grant_own, page_done, look_up, reach_now, forget_page, session_moved, session_item}
+use Rattle.plat_events.specs.Events.{named_next, is_followed, after_if, after, moved_at, item_at, at, drop_own, shoot_place, grant_own}
+use Rattle.plat_events.specs.Events.{page_done, look_up, reach_now, forget_page, session_moved, session_item}
 use Rattle.plat_events.specs.Standings.{unlocking_of}
 use Rattle.plat_shoot.specs.ShootSeen.{own_by}
 use Rattle.plat_pmap.specs.declared.atcs.Slot.{Slot}
 use Rattle.plat_handler.specs.declared.asks.Ask.TheVariants as ask
 use Rattle.plat_handler.specs.HandlerSeen.{is_word_asked, own_of, removed_in}
 use Rattle.plat_handler.specs.Phases.{answer_of}
-use Rattle.plat_handler.specs.Stages.{Stage, Locks, Relocks, Runs, Rewaits, Returned, Changed, stage_shot, session_after, stage_run, stage_after, place_in, posted_own, installed_in, granted_by}
+use Rattle.plat_handler.specs.Stages.{Stage, Locks, Relocks, Runs, Rewaits, Returned, Changed, stage_shot, session_after, stage_run}
+use Rattle.plat_handler.specs.Stages.{stage_after, place_in, posted_own, installed_in, granted_by}
 use Rattle.plat_handler.specs.Fits.{StageFits, is_fault}
 use Rattle.plat_handler.proofs.FaultLemmas.{fault-entry}
 use Rattle.plat_proc.specs.Cached.{slots_at, slots_in}

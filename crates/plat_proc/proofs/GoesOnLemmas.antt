@@ -11,7 +11,9 @@ use Rattle.plat_base.specs.declared.items.Action.{Action}
 use Rattle.plat_base.specs.declared.items.Action.TheVariants as action
 use Rattle.plat_base.specs.declared.items.Removed.{Removed}
 use Rattle.plat_events.specs.Shootdowns.{Shoot, Makes, Polls, Done, shoot_from}
-use Rattle.plat_events.specs.Sessions.{Stamp, Course, Phase, Seeking, Taking, Returning, Filling, Reading, Giving, Storing, Granting, Unlocking, Session, decision_of, tried, going, give_from, fill_from, copy_from, shot_over, with_posts, with_shoot, start_course, with_frame_got, seek_from, pool_found, frame_taken, with_phase}
+use Rattle.plat_events.specs.Sessions.{Stamp, Course, Phase, Seeking, Taking, Returning, Filling, Reading, Giving, Storing, Granting}
+use Rattle.plat_events.specs.Sessions.{Unlocking, Session, decision_of, tried, going, give_from, fill_from, copy_from, shot_over}
+use Rattle.plat_events.specs.Sessions.{with_posts, with_shoot, start_course, with_frame_got, seek_from, pool_found, frame_taken, with_phase}
 use Rattle.plat_events.specs.Standings.{removes_by, unlocking_of}
 
 -- the unlock is not next

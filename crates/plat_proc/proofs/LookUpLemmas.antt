@@ -1,8 +1,9 @@
 -- look-ups of the cache: that of a tick, and that behind an unlock
-use Rattle.std.proofs.Common.{◌≡◌, ℕ, ◌<◌, Bool, true, false, List, [], ◌∷◌, length, Some, None, refl, ap, sym, subst, ◌∙◌, inl, inr, zero, suc, get_or, map}
+use Rattle.std.proofs.Common.{◌≡◌, ℕ, ◌<◌, Bool, true, false, List, [], ◌∷◌, length, Some, None, refl, ap, sym, subst, ◌∙◌, inl, inr, zero}
+use Rattle.std.proofs.Common.{suc, get_or, map}
 use Rattle.std.specs.Prelude.{◌≢◌, ◌==◌, ◌/◌, ◌%◌, ◌&&◌, ◌||◌, not, is_some, Option, slice_get, slice_index_or, unwrap_or}
 use Rattle.std.specs.Option.{option_map_or}
-use Rattle.std.proofs.lemmas.Bool.{cond_both, cond-true, cases_Bool, eqb-true, eq-eqb, true≢false}
+use Rattle.std.proofs.lemmas.Bool.{cond_both, cond-true, cases_Bool, eqb-true, eq-eqb, true≢false, and_right}
 use Rattle.std.proofs.lemmas.Option.{slice_get-get_or}
 use Rattle.plat_base.specs.Machine.{Machine}
 use Rattle.plat_base.specs.Accesses.{cause_of, right_of}
@@ -31,8 +32,9 @@ use Rattle.plat_pmap.specs.declared.atcs.Slot.{Slot}
 use Rattle.plat_proc.specs.Cached.{slots_forgotten, slots_looked, without_slot_of}
 use Rattle.plat_proc.specs.Fits.{CacheFits, grants_by, removes_in, removes_of, vpage_in, vpage_of_entry}
 use Rattle.plat_proc.proofs.GoesOnLemmas.{removed_by}
-use Rattle.plat_proc.proofs.SlotFitsLemmas.{IsCurrent, AllCurrent, and-fewer, filled-current, slot-without_page}
+use Rattle.plat_proc.proofs.SlotFitsLemmas.{IsCurrent, AllCurrent, filled-current, slot-without_page}
 use Rattle.plat_proc.proofs.SessionFitsLemmas.{removes}
+use Rattle.plat_local_laws.proofs.CountLaws.{serves-cause}
 
 -- ---- the virtual page of an access
 
@@ -151,7 +153,7 @@ forgotten-kept m a p s c slots k t e =
     cond_both (removes_some (removed_by m (answer_of m) a p.now s c)) (map (without_slot_of m s.fault.page) slots) slots
     (λ left. slice_get left k ≡ Some (Some t) → (slice_get slots k ≡ Some (Some t)) × (removes_in m a p t.entry s ≡ false))
     (λ _ g. let w = slot-without_page m s.fault.page slots k t g in
-    (w.0, and-fewer (removes m a p s) (page_of m t.entry == s.fault.page) w.1))
+    (w.0, and_right (removes m a p s) (page_of m t.entry == s.fault.page) w.1))
     (λ q g. (g, ap (λ b. b && page_of m t.entry == s.fault.page) (same ∙ q)))
 
 -- so it is current, but for the entry that was granted
@@ -235,12 +237,6 @@ pub unlocked-misses :
 unlocked-misses m a p s c slots u =
     missed m a p s c slots (slot_of (slots_forgotten m a p s c slots) (vpage_of m (reach_now m a p))) u refl
 
--- a grant has enough right for the access that faulted
-right-enough : (k : Kind) → serves k (right_of (cause_of k)) ≡ true
-right-enough Load = refl
-right-enough Store = refl
-right-enough Add = refl
-
 -- what the look-up behind the unlock finds
 pub unlocked-found :
     (m : Machine) (a : ℕ) (p : Private) (s : Session) (c : Course) (slots : List (Option Slot)) → UnlocksOk m a p s c slots
@@ -248,7 +244,7 @@ pub unlocked-found :
 unlocked-found m a p s c slots u =
     let r = reach_now m a p in
     ap (λ e. has_right r.kind (translation_at p e)) (sym (entry-faulted m a p s u.fault)) ∙ ap (has_right r.kind) u.granted
-    ∙ ap (λ x. serves r.kind (right_of x)) u.fault.cause ∙ right-enough r.kind
+    ∙ ap (λ x. serves r.kind (right_of x)) u.fault.cause ∙ serves-cause r.kind
 
 -- and so every place is current again
 pub unlocked-current :

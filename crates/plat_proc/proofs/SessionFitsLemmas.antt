@@ -1,7 +1,7 @@
 -- what the cache keeps in a session: while its phases pass, at a post, and at the grant
 use Rattle.std.proofs.Common.{◌≡◌, ℕ, Bool, true, false, List, Some, None, refl, ap, sym, ◌∙◌}
 use Rattle.std.specs.Prelude.{◌≢◌, ◌==◌, ◌&&◌, ◌||◌, not, if◌then◌else◌, is_some, Option, slice_get, slice_set}
-use Rattle.std.proofs.lemmas.Bool.{eqb-true, eqb-false, eq-eqb, true≢false}
+use Rattle.std.proofs.lemmas.Bool.{eqb-true, eqb-false, eq-eqb, true≢false, and_right}
 use Rattle.std.proofs.lemmas.Option.{slice_get_within, get_or_from_slice_get}
 use Rattle.std.proofs.lemmas.List.{get_or-set_other}
 use Rattle.plat_base.specs.Machine.{Machine}
@@ -27,7 +27,7 @@ use Rattle.plat_pmap.specs.Slots.{AreSlots, is_usable}
 use Rattle.plat_pmap.specs.declared.atcs.Slot.{Slot}
 use Rattle.plat_proc.specs.Fits.{CacheFits, grants_by, grants_in, removes_of}
 use Rattle.plat_proc.proofs.GoesOnLemmas.{IsBefore}
-use Rattle.plat_proc.proofs.SlotFitsLemmas.{and-fewer, and-weaker, ungranted}
+use Rattle.plat_proc.proofs.SlotFitsLemmas.{and-weaker, ungranted}
 
 -- the session removes translations
 abbrev pub removes : Machine → (a : ℕ) → Private → Session → Bool
@@ -85,7 +85,7 @@ posted-fits m a p place s y i v slots ep eq b c at h k t g =
       place = f.place;
       current = λ x _. get_or-set_other p.pmap i t.entry v None (other t.entry (apart x))
           ∙ f.current
-          (ap (removes_of m a p t.entry) ep ∙ and-fewer (removes m a p s) (page_of m t.entry == s.fault.page) (apart x))
+          (ap (removes_of m a p t.entry) ep ∙ and_right (removes m a p s) (page_of m t.entry == s.fault.page) (apart x))
           (ap (grants_by m a p t.entry) ep ∙ removing-ungranted m a p t.entry s b);
       misses = λ x. absurd (true≢false (sym x ∙ ap (grants_by m a q t.entry) eq ∙ removing-ungranted m a q t.entry u c));
     }
@@ -111,10 +111,10 @@ lacks-misses :
     → (b && (not (is_write kind) || written)) ≡ false
 lacks-misses Load right written b h u = absurd cc
 lacks-misses Store Read true b h u = absurd cc
-lacks-misses Store Read false b h u = and-fewer b false refl
+lacks-misses Store Read false b h u = and_right b false refl
 lacks-misses Store Write written b h u = absurd cc
 lacks-misses Add Read true b h u = absurd cc
-lacks-misses Add Read false b h u = and-fewer b false refl
+lacks-misses Add Read false b h u = and_right b false refl
 lacks-misses Add Write written b h u = absurd cc
 
 parts : (b c d : Bool) → (not b && c && d) ≡ true → (b ≡ false) × (d ≡ true)

@@ -1,8 +1,9 @@
 -- what a place of the cache keeps, where the translations, the place of the processor or its session change
-use Rattle.std.proofs.Common.{◌≡◌, ℕ, zero, suc, Bool, true, false, List, [], ◌∷◌, Some, None, refl, ap, sym, subst, ◌∙◌, ◌⊎◌, inl, inr, set, map, arith}
+use Rattle.std.proofs.Common.{◌≡◌, ℕ, zero, suc, Bool, true, false, List, [], ◌∷◌, Some, None, refl, ap, sym, subst, ◌∙◌, ◌⊎◌, inl, inr}
+use Rattle.std.proofs.Common.{set, map, arith}
 use Rattle.std.specs.Prelude.{◌≢◌, ◌==◌, ◌%◌, ◌&&◌, if◌then◌else◌, is_some, Option, slice_get, slice_set, slice_index_or}
 use Rattle.std.specs.Option.{option_map}
-use Rattle.std.proofs.lemmas.Bool.{cond_both, eqb-false, true≢false}
+use Rattle.std.proofs.lemmas.Bool.{cond_both, eqb-false, true≢false, and_right}
 use Rattle.std.proofs.lemmas.Option.{slice_get-map}
 use Rattle.std.proofs.lemmas.List.{get_or-set_other}
 use Rattle.plat_base.specs.Machine.{Machine}
@@ -206,11 +207,7 @@ and-weaker true true d k h = h
 and-weaker true false d k h = absurd (true≢false (sym (k refl)))
 and-weaker false c d k h = refl
 
-pub and-fewer : (b c : Bool) → c ≡ false → (b && c) ≡ false
-and-fewer true c h = h
-and-fewer false c h = refl
-
 -- where the unlock is not next, nothing is granted
 pub ungranted :
     (m : Machine) (a : ℕ) (p : Private) (e : ℕ) (s : Session) → is_some (unlocking_of s.phase) ≡ false → grants_in m a p e s ≡ false
-ungranted m a p e s h = grind (arith, and-fewer)
+ungranted m a p e s h = grind (arith, and_right)

@@ -14,15 +14,18 @@ use Rattle.plat_base.specs.declared.guests.Want.{Want}
 use Rattle.plat_base.specs.declared.guests.Want.TheVariants as want
 use Rattle.plat_base.specs.declared.items.Translation.{Translation}
 use Rattle.plat_events.specs.Events.{entry_of, reach_now, vpage_of}
-use Rattle.plat_events.specs.Privates.{Place, Polling, Looking, Applying, Ticking, Switching, Loading, Expecting, Exchanging, Locking, InSession, Leaving, Lessening, Gone, LiveLooking, TimeLooking, Over, Private}
+use Rattle.plat_events.specs.Privates.{Place, Polling, Looking, Applying, Ticking, Switching, Loading, Expecting, Exchanging, Locking}
+use Rattle.plat_events.specs.Privates.{InSession, Leaving, Lessening, Gone, LiveLooking, TimeLooking, Over, Private}
 use Rattle.plat_events.specs.Scans.{entry_scanned}
-use Rattle.plat_events.specs.Sessions.{Course, Phase, Stamping, Seeking, Taking, Returning, Shooting, Filling, Reading, Copying, Giving, Storing, Granting, Unlocking, Session, decision_of}
+use Rattle.plat_events.specs.Sessions.{Course, Phase, Stamping, Seeking, Taking, Returning, Shooting, Filling, Reading, Copying, Giving}
+use Rattle.plat_events.specs.Sessions.{Storing, Granting, Unlocking, Session, decision_of}
 use Rattle.plat_handler.specs.Phases.{answer_of}
 use Rattle.plat_pmap.specs.Slots.{AreSlots, filled, is_usable, place_of, slot_of, without_slot}
 use Rattle.plat_pmap.specs.Translations.{translation_of, usable}
 use Rattle.plat_pmap.specs.declared.atcs.Slot.{Slot}
 use Rattle.plat_pmap.proofs.SlotLemmas.{is_usable-filled}
-use Rattle.plat_proc.specs.Cached.{slots_at, slots_followed, slots_forgotten, slots_in, slots_looked, slots_ticked, slots_told, without_slot_of}
+use Rattle.plat_proc.specs.Cached.{slots_at, slots_followed, slots_forgotten, slots_in, slots_looked, slots_ticked, slots_told}
+use Rattle.plat_proc.specs.Cached.{without_slot_of}
 use Rattle.plat_proc.specs.Followed.{is_told}
 use Rattle.plat_proc.specs.ProcSeen.{ProcSeen}
 

@@ -14,7 +14,9 @@ use Rattle.plat_base.specs.declared.words.Op.{Op}
 use Rattle.plat_base.specs.declared.words.WordName.{WordName}
 use Rattle.plat_events.specs.Places.{entry_count, word_count}
 use Rattle.plat_events.specs.Privates as events
-use Rattle.plat_events.specs.Privates.{NewTurn, Polling, Looking, Applying, Ticking, Switching, Loading, Expecting, Exchanging, Locking, InSession, Leaving, Lessening, Gone, LiveLooking, TimeLooking, Over, Private, first_place, first_private, is_over, period}
+use Rattle.plat_events.specs.Privates.{NewTurn, Polling, Looking, Applying, Ticking, Switching, Loading, Expecting, Exchanging, Locking}
+use Rattle.plat_events.specs.Privates.{InSession, Leaving, Lessening, Gone, LiveLooking, TimeLooking, Over, Private, first_place}
+use Rattle.plat_events.specs.Privates.{first_private, is_over, period}
 use Rattle.plat_events.specs.Events.{next_of, placed}
 use Rattle.plat_words.proofs.PlacesApart.{place_of-below}
 use Rattle.plat_ports.specs.Ports.{AreWords}

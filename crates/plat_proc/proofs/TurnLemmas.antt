@@ -42,6 +42,7 @@ use Rattle.plat_proc.specs.declared.places.Place.TheVariants as place
 use Rattle.plat_proc.specs.declared.places.Place as code
 use Rattle.plat_proc.specs.Cached.{slots_at, slots_followed}
 use Rattle.plat_proc.proofs.FitsLemmas.{room-left, stands}
+use Rattle.plat_local_laws.proofs.WordLaws.{turns-few}
 
 -- ---- the place
 
@@ -100,11 +101,6 @@ may-access m x writes h f k = record {
 }
 
 -- ---- numbers
-
-pub turns-few : (m : Machine) → IsWithinLimits m → m.nodes * m.budget ≤ 524288
-turns-few m h =
-    let nodes = nodes-most m h in let budget = budget-most m h in
-    omega (arith, mul-le-mul_left m.nodes budget, mul-le-mul_left 65536 nodes, mul_comm m.nodes 65536)
 
 pub version-below : (m : Machine) (n : ℕ) → IsTrue (is_machine m) → IsTrue (is_data_word m n) → version_read n < 4294967295
 version-below m n h w = let few = turns-few m h in let most : version_read n ≤ m.nodes * m.budget = grind (arith, nat_tests) in omega arith

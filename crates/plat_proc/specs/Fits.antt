@@ -1,5 +1,6 @@
 -- what holds of a processor between two operations, whatever the words were that it found
-use Rattle.std.specs.Prelude.{◌≡◌, ℕ, ◌<◌, ◌≤◌, ◌%◌, ◌==◌, ◌&&◌, not, Bool, true, false, List, Option, Some, None, IfSome, IsSome, is_some, slice_get}
+use Rattle.std.specs.Prelude.{◌≡◌, ℕ, ◌<◌, ◌≤◌, ◌%◌, ◌==◌, ◌&&◌, not, Bool, true, false, List, Option, Some, None, IfSome, IsSome, is_some}
+use Rattle.std.specs.Prelude.{slice_get}
 use Rattle.plat_base.specs.Machine.{Machine}
 use Rattle.plat_base.specs.Pages.{page_of}
 use Rattle.plat_base.specs.Cache.{serves_access}

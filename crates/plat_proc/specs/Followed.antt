@@ -7,7 +7,8 @@ use Rattle.plat_base.specs.declared.items.Moment.{Moment}
 use Rattle.plat_base.specs.declared.words.Op.{Op}
 use Rattle.plat_base.specs.declared.words.WordName.{WordName}
 use Rattle.plat_events.specs.Privates.{Place, Private, translation_at}
-use Rattle.plat_events.specs.Events.{named_next, next_of, is_followed, after, moved_at, item_at, applied_item, with_item, access_made, access_over}
+use Rattle.plat_events.specs.Events.{named_next, next_of, is_followed, after, moved_at, item_at, applied_item, with_item, access_made}
+use Rattle.plat_events.specs.Events.{access_over}
 use Rattle.plat_handler.specs.Phases.{answer_of}
 use Rattle.plat_ports.specs.Ports.{IsEvent}
 use Rattle.plat_proc.specs.ProcSeen.{ProcSeen}

@@ -1,6 +1,8 @@
 -- a processor as its contracts see it
 use Rattle.std.specs.Prelude.{ℕ, Bool, true, false, List, Option}
-use Rattle.plat_events.specs.Privates.{Onward, NewTurn, TurnOver, Relock, Rewait, Place, Polling, Looking, Applying, Ticking, Switching, Loading, Expecting, Exchanging, Locking, InSession, Leaving, Lessening, Gone, LiveLooking, TimeLooking, Over, Private}
+use Rattle.plat_events.specs.Privates.{Onward, NewTurn, TurnOver, Relock, Rewait, Place, Polling, Looking, Applying, Ticking, Switching}
+use Rattle.plat_events.specs.Privates.{Loading, Expecting, Exchanging, Locking, InSession, Leaving, Lessening, Gone, LiveLooking}
+use Rattle.plat_events.specs.Privates.{TimeLooking, Over, Private}
 use Rattle.plat_handler.specs.HandlerSeen.{HandlerSeen}
 use Rattle.plat_pmap.specs.declared.atcs.Slot.{Slot}
 use Rattle.plat_proc.specs.declared.procs.Stepped.{Stepped}

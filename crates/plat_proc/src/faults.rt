@@ -14,7 +14,6 @@ ghost use Rattle.plat_proc.specs.Granted.{GrantAgrees, granted_to, slots_granted
 ghost use Rattle.plat_proc.specs.Owned.{IsGrantOf, IsOwnOf, given_up, installed, pmap_told};
 ghost use Rattle.plat_proc.specs.Places.{is_faulting};
 
-use crate::entries::entry_count;
 use crate::places::{Onward, Place};
 use crate::procs::Proc;
 use plat_base::{Change, Config, End, Item, Op, Removed, Translation};
@@ -45,13 +44,13 @@ fn install(pmap: &mut Pmap, granted: Option<Translation>)
 }
 
 /// Takes in what the handler's operation found, with what that takes of the own translations and what its session grants, and
-/// says what the handler asks next.
-fn went_on(cfg: &Config, handler: &mut Handler, pmap: &mut Pmap, found: u64) -> Ask
+/// says whether the handler asks for another operation.
+fn went_on(cfg: &Config, handler: &mut Handler, pmap: &mut Pmap, found: u64) -> bool
     requires processor { handler.old.actor < cfg.now.nodes }
     requires handles { HandlesOn (machine cfg.now) handler.old }
     requires word { IsTrue (is_word_asked (asked (machine cfg.now) handler.old)) }
     requires entries { length pmap.old ≡ length cfg.now.entries.items }
-    ensures asks { result ≡ asked (machine cfg.now) handler.new }
+    ensures asks { result ≡ is_word_asked (asked (machine cfg.now) handler.new) }
     ensures pmap { pmap.new ≡ pmap_told (machine cfg.now) handler.old found pmap.old }
     ensures stage { handler.new.stage ≡ stage_told (machine cfg.now) handler.old found }
     ensures actor { handler.new.actor ≡ handler.old.actor }
@@ -59,11 +58,11 @@ fn went_on(cfg: &Config, handler: &mut Handler, pmap: &mut Pmap, found: u64) -> 
     ensures handles { HandlesOn (machine cfg.now) handler.new }
 {
     give_up(pmap, handler.after(cfg, found));
-    let ask = handler.next(cfg);
-    if matches!(ask, Ask::Word { .. }) {
+    let asks = handler.asks_word();
+    if asks {
         install(pmap, handler.installed(cfg));
     }
-    ask
+    asks
 }
 
 /// Empties the places of the cache that keep entries of a page.
@@ -71,10 +70,8 @@ fn forget_page(cfg: &Config, atc: &mut Atc, page: u32)
     requires { page < cfg.now.pages }
     ensures { atc.new ≡ map (without_slot_of (machine cfg.now) page) atc.old }
 {
-    for entry in 0..entry_count(cfg) {
-        if cfg.page_of(entry) == page {
-            atc.forget(entry);
-        }
+    for entry in cfg.entries_of_page(page) {
+        atc.forget(*entry);
     }
 }
 
@@ -133,20 +130,23 @@ impl Proc {
         ensures actor { self.new.actor ≡ self.old.actor }
         ensures room { self.new.room ≡ self.old.room }
         ensures slots { self.new.slots ≡ slots_told (machine cfg.now) self.old found }
-        ensures handling { IfSome self.new.handler (IsHandling (machine cfg.now) self.new.actor self.new.state) }
+        ensures handling { IfSome self.new.handler
+            (IsHandling (machine cfg.now) self.new.actor self.new.state) }
     {
         let Some(handler) = &mut self.handler else {
             unreachable!()
         };
-        match went_on(cfg, handler, &mut self.pmap, found) {
-            Ask::Word { .. } => {}
+        if went_on(cfg, handler, &mut self.pmap, found) {
+            return;
+        }
+        match handler.next(cfg) {
             Ask::Poll => self.place = Place::Polling(Onward::Fault),
             Ask::Granted(change) => self.granted(cfg, change),
             Ask::NoFrames => {
                 self.handler = None;
                 self.place = Place::Leaving(End::NoFrames);
             }
-            Ask::Thawed(_) | Ask::NotFrozen => unreachable!(),
+            Ask::Word { .. } | Ask::Thawed(_) | Ask::NotFrozen => unreachable!(),
         }
     }
 
@@ -166,7 +166,8 @@ impl Proc {
             ≡ slots_granted (machine cfg.now) self.old.actor self.old.state change self.old.slots }
         ensures actor { self.new.actor ≡ self.old.actor }
         ensures room { self.new.room ≡ self.old.room }
-        ensures handling { IfSome self.new.handler (IsHandling (machine cfg.now) self.new.actor self.new.state) }
+        ensures handling { IfSome self.new.handler
+            (IsHandling (machine cfg.now) self.new.actor self.new.state) }
     {
         let page = change.page;
         let removed = change.removed;

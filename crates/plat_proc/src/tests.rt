@@ -4,80 +4,52 @@ ghost use Rattle.std.specs.Prelude.{◌≡◌, IfOk, IsTrue};
 ghost use Rattle.plat_base.specs.Canon.{is_short};
 ghost use Rattle.plat_base.specs.Machine.{is_machine, program_seen};
 ghost use Rattle.plat_base.specs.Seen.{machine};
-ghost use Rattle.plat_proc.specs.Tried.{buffering_guest, store_buffering, storing_code, switching_code, tried};
+ghost use Rattle.plat_proc.specs.Tried.{buffering_guest, store_buffering, tried};
 
 use crate::{Proc, Stepped};
 use plat_base::{
-    Access, Action, Cause, Change, Config, Copies, Dir, End, Entry, Frame, Grant, GuestText, Instr,
-    Item, Kind, List, Op, OutOfMemory, Plan, PolicyKind, Removed, Right, State, Switch,
+    Access, Action, Cause, Change, Config, Copies, Dir, End, Frame, Grant, GuestText, Instr, Item,
+    Kind, Op, OutOfMemory, PolicyKind, Removed, Right, State, Switch,
 };
 use plat_ports::{Made, RecordPort};
+use plat_samples::{Sizes, entry, guest, one_guest, small, two_guests};
 use std::alloc::Global;
 use std::test::Fail;
 
 /// The guest `switch 0`, `print r0`, `halt`.
-fn switching(alloc: Global) -> Result<List<Instr>, OutOfMemory>
-    ensures { IfOk result (λ code. code.items ≡ switching_code) }
-{
-    let mut code = List::with_room(alloc, 3)?;
-    code.push(Instr::Switch(0));
-    code.push(Instr::Print(0));
-    code.push(Instr::Halt);
-    Ok(code)
-}
+const SWITCHING: [Instr; 3] = [Instr::Switch(0), Instr::Print(0), Instr::Halt];
 
 /// The guest `set r1 5`, `store r1 0`, `load r2 0`, `print r2`, `halt`.
-fn storing(alloc: Global) -> Result<List<Instr>, OutOfMemory>
-    ensures { IfOk result (λ code. code.items ≡ storing_code) }
-{
-    let mut code = List::with_room(alloc, 5)?;
-    code.push(Instr::Set { d: 1, n: 5 });
-    code.push(Instr::Store {
+const STORING: [Instr; 5] = [
+    Instr::Set { d: 1, n: 5 },
+    Instr::Store {
         s: 1,
         k: 0,
         i: None,
-    });
-    code.push(Instr::Load {
+    },
+    Instr::Load {
         d: 2,
         k: 0,
         i: None,
-    });
-    code.push(Instr::Print(2));
-    code.push(Instr::Halt);
-    Ok(code)
-}
+    },
+    Instr::Print(2),
+    Instr::Halt,
+];
 
 /// A machine of one node and one page, which virtual page 0 of space 0 leads to, with that guest. Its words are the time, the
 /// live processors, the active space, the interrupts, the directory, the stamp, the mask, the pool, and four of the frame.
-fn small(alloc: Global, code: List<Instr>) -> Result<Config, OutOfMemory>
-    requires limits { IsTrue (is_machine (tried code.items)) }
-    requires short { IsTrue (is_short (tried code.items)) }
+fn one_node(alloc: Global, code: &[Instr]) -> Result<Config, OutOfMemory>
+    requires limits { IsTrue (is_machine (tried code.now)) }
+    requires short { IsTrue (is_short (tried code.now)) }
 {
-    let mut entries = List::with_room(alloc, 1)?;
-    entries.push(Entry {
-        space: 0,
-        vpage: 0,
-        page: 0,
-    });
-    let mut guests = List::with_room(alloc, 1)?;
-    guests.push(GuestText {
-        space: 0,
-        code,
-        labels: List::new(alloc),
-    });
-    Ok(Config {
+    let sizes = Sizes {
         nodes: 1,
         frames: 1,
-        words: 4,
         pages: 1,
-        policy: PolicyKind::Place,
         budget: 10,
-        schedule: Plan::Robin,
-        distances: List::new(alloc),
-        entries,
-        inits: List::new(alloc),
-        guests,
-    })
+    };
+    let guests = one_guest(alloc, guest(alloc, code)?)?;
+    small(alloc, sizes, PolicyKind::Place, &[entry(0, 0)], &[], guests)
 }
 
 fn made(at: usize, op: Op, found: u64) -> Made {
@@ -86,7 +58,7 @@ fn made(at: usize, op: Op, found: u64) -> Made {
 
 #[test]
 fn a_guest_switches_prints_and_halts(rt: HostRuntime) -> Result<(), Fail> {
-    let cfg = small(rt.alloc(), switching(rt.alloc())?)?;
+    let cfg = one_node(rt.alloc(), &SWITCHING)?;
     let mut port = RecordPort::new(rt.alloc(), &cfg, 10)?;
     let mut proc = Proc::new(rt.alloc(), &cfg, 0)?;
     assert!(rt; proc.at_turn());
@@ -177,7 +149,7 @@ const STORED: u64 = 4294967301;
 
 #[test]
 fn a_store_fills_its_page_and_a_load_finds_it(rt: HostRuntime) -> Result<(), Fail> {
-    let cfg = small(rt.alloc(), storing(rt.alloc())?)?;
+    let cfg = one_node(rt.alloc(), &STORING)?;
     let mut port = RecordPort::new(rt.alloc(), &cfg, 26)?;
     let mut proc = Proc::new(rt.alloc(), &cfg, 0)?;
     for _ in 0..25 {
@@ -235,25 +207,18 @@ fn a_store_fills_its_page_and_a_load_finds_it(rt: HostRuntime) -> Result<(), Fai
 fn buffering(alloc: Global, own: u32, other: u32) -> Result<GuestText, OutOfMemory>
     ensures { IfOk result (λ text. program_seen text ≡ buffering_guest own other) }
 {
-    let mut code = List::with_room(alloc, 5)?;
-    code.push(Instr::Set { d: 1, n: 1 });
-    code.push(Instr::Store {
+    let store = Instr::Store {
         s: 1,
         k: own,
         i: None,
-    });
-    code.push(Instr::Load {
+    };
+    let load = Instr::Load {
         d: 2,
         k: other,
         i: None,
-    });
-    code.push(Instr::Print(2));
-    code.push(Instr::Halt);
-    Ok(GuestText {
-        space: 0,
-        code,
-        labels: List::new(alloc),
-    })
+    };
+    let set = Instr::Set { d: 1, n: 1 };
+    guest(alloc, &[set, store, load, Instr::Print(2), Instr::Halt])
 }
 
 /// A machine of two nodes and two pages, whose guests each store into a page of their own and load from the other's. Its words
@@ -262,33 +227,17 @@ fn buffering(alloc: Global, own: u32, other: u32) -> Result<GuestText, OutOfMemo
 fn store_buffering(alloc: Global) -> Result<Config, OutOfMemory>
     ensures { IfOk result (λ cfg. machine cfg ≡ store_buffering) }
 {
-    let mut entries = List::with_room(alloc, 2)?;
-    entries.push(Entry {
-        space: 0,
-        vpage: 0,
-        page: 0,
-    });
-    entries.push(Entry {
-        space: 0,
-        vpage: 1,
-        page: 1,
-    });
-    let mut guests = List::with_room(alloc, 2)?;
-    guests.push(buffering(alloc, 0, 4)?);
-    guests.push(buffering(alloc, 4, 0)?);
-    Ok(Config {
+    let sizes = Sizes {
         nodes: 2,
         frames: 4,
-        words: 4,
         pages: 2,
-        policy: PolicyKind::Replicate,
         budget: 100,
-        schedule: Plan::Robin,
-        distances: List::new(alloc),
-        entries,
-        inits: List::new(alloc),
-        guests,
-    })
+    };
+    let entries = [entry(0, 0), entry(1, 1)];
+    let first = buffering(alloc, 0, 4)?;
+    let second = buffering(alloc, 4, 0)?;
+    let guests = two_guests(alloc, first, second)?;
+    small(alloc, sizes, PolicyKind::Replicate, &entries, &[], guests)
 }
 
 /// The word of the stored 1 in its first version.

@@ -30,7 +30,6 @@ use crate::scans::{looked, polled, scan_from, turn_over};
 use plat_base::{
     Applied, Config, End, Item, Message, Moment, Op, Switch, Translation, Want, WordName,
 };
-use plat_guest::entry_at;
 use plat_handler::{Fault, Handler};
 use plat_ports::WordPort;
 use plat_words::{DataWord, is_word, place};
@@ -117,7 +116,7 @@ impl Proc {
         else {
             unreachable!()
         };
-        let Some(entry) = entry_at(cfg, space, addr / cfg.words) else {
+        let Some(entry) = cfg.entry_at(space, addr / cfg.words) else {
             unreachable!()
         };
         reach_of(cfg, entry, kind, space, addr, operand)

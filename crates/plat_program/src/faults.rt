@@ -1,4 +1,7 @@
 //! The statuses of the program as numbers, and as lines on standard error.
+ghost use Rattle.std.specs.Prelude.{◌≡◌};
+ghost use Rattle.plat_program.specs.Said.{number, said};
+
 use plat_base::{Rule, Status, Why};
 use thiserror::Error;
 
@@ -26,7 +29,9 @@ pub enum Fault {
 }
 
 /// What the program says of this status, if it is not Done.
-pub fn fault_of(status: Status) -> Option<Fault> {
+pub fn fault_of(status: Status) -> Option<Fault>
+    ensures { result ≡ said status }
+{
     match status {
         Status::Done => None,
         Status::HistoryBad(bad) => Some(Fault::History {
@@ -48,8 +53,10 @@ pub fn fault_of(status: Status) -> Option<Fault> {
     }
 }
 
-/// The number that the program ends with.
-pub fn number_of(status: Status) -> u8 {
+/// The number that the program ends with, as `docs/FORMATS.md` has it.
+pub fn number_of(status: Status) -> u8
+    ensures { result ≡ number status }
+{
     match status {
         Status::Done => 0,
         Status::HistoryBad(_) => 1,

@@ -14,7 +14,8 @@ unless_frozen frozen Move = Move
 abbrev pub answer_of : Answer → Answer
 answer_of proposed dir last now = unless_frozen dir.frozen (proposed dir last now)
 
-pub answer_of-frozen : (proposed : Answer) (dir : Dir) (last : Option ℕ) (now : ℕ) → IsTrue dir.frozen → answer_of proposed dir last now ≢ Freeze
+pub answer_of-frozen : (proposed : Answer) (dir : Dir) (last : Option ℕ) (now : ℕ) → IsTrue dir.frozen →
+    answer_of proposed dir last now ≢ Freeze
 answer_of-frozen proposed dir last now h = by (proposed dir last now) dir.frozen h
   where
     by : (v : Verdict) (frozen : Bool) → IsTrue frozen → unless_frozen frozen v ≢ Freeze

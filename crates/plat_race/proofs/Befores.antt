@@ -1,50 +1,25 @@
 -- before: the computed test is the relation
-use Rattle.std.specs.Prelude.{◌≡◌, ◌⊎◌, ℕ, zero, suc, ◌+◌, ◌<◌, ◌≤◌, nat_lt, ◌&&◌, ◌||◌, Bool, true, false, List, [], ◌∷◌, ◌++◌, length, refl}
+use Rattle.std.specs.Prelude.{◌≡◌, ◌⊎◌, ℕ, zero, suc, ◌+◌, ◌<◌, ◌≤◌, nat_lt, ◌&&◌, ◌||◌, Bool, true, false, List, [], ◌∷◌, ◌++◌, length}
+use Rattle.std.specs.Prelude.{refl}
 use Rattle.std.specs.List.{fold, list_any, range_with_len}
 use Rattle.std.proofs.Common.{ap, sym, ◌∙◌, inl, inr, get_or, arith, ⊎_elim}
-use Rattle.std.proofs.lemmas.Bool.{and_parts}
+use Rattle.std.proofs.lemmas.Bool.{and_parts, or_cases, or_left, or_right, and_from}
 use Rattle.std.proofs.lemmas.Bool.Decides.{nat_tests}
 use Rattle.std.proofs.lemmas.Grind.{fold-append, common_steps}
 use Rattle.plat_base.specs.Pages.{numbers}
 use Rattle.plat_base.specs.declared.items.Item.{Item}
 use Rattle.plat_laws.proofs.NumberLaws.{list_any_numbers-true}
-use Rattle.plat_race.specs.Races.{item_at, of_two, is_linked, is_directly_before, IsBefore, directly, by_way_of, is_next_before, befores, is_before}
+use Rattle.plat_race.specs.Races.{item_at, of_two, is_linked, is_directly_before, IsBefore, directly, by_way_of, is_next_before, befores}
+use Rattle.plat_race.specs.Races.{is_before}
+use Rattle.plat_base.proofs.ListLemmas.{range-more, any-range, any-numbers}
 
 -- ---- the numbers below a bound
-
-range-more : (a n : ℕ) → range_with_len a (suc n) ≡ range_with_len a n ++ (a + n) ∷ []
-range-more a zero = ap (λ k. k ∷ []) (omega arith)
-range-more a (suc n) =
-    ap (λ ks. a ∷ ks) (range-more (a + 1) n ∙ ap (λ k. range_with_len (a + 1) n ++ k ∷ []) (omega arith))
 
 -- the numbers below n + 1
 pub numbers-more : (n : ℕ) → numbers (suc n) ≡ numbers n ++ n ∷ []
 numbers-more n = range-more 0 n ∙ ap (λ k. numbers n ++ k ∷ []) (omega arith)
 
-list_any_range-at : (test : ℕ → Bool) (a n i : ℕ) → a ≤ i → i < a + n → test i ≡ true → list_any test (range_with_len a n) ≡ true
-list_any_range-at test a zero i l u h = absurd (omega arith)
-list_any_range-at test a (suc n) i l u h = grind (arith, nat_tests, list_any_range-at test (a + 1) n i)
-
-list_any_numbers-at : (test : ℕ → Bool) (n i : ℕ) → i < n → test i ≡ true → list_any test (numbers n) ≡ true
-list_any_numbers-at test n i l h = list_any_range-at test 0 n i (omega arith) (omega arith) h
-
 -- ---- the table of the computed test
-
-or_cases : (b c : Bool) → (b || c) ≡ true → (b ≡ true) ⊎ (c ≡ true)
-or_cases true c h = inl refl
-or_cases false c h = inr h
-
-or_left : (b c : Bool) → b ≡ true → (b || c) ≡ true
-or_left true c h = refl
-or_left false c h = absurd cc
-
-or_right : (b c : Bool) → c ≡ true → (b || c) ≡ true
-or_right true c h = refl
-or_right false c h = h
-
-both : (b c : Bool) → b ≡ true → c ≡ true → (b && c) ≡ true
-both true c h k = k
-both false c h k = absurd cc
 
 -- the earlier of two places
 pub directly-below : (items : List Item) (i j : ℕ) → is_directly_before items i j ≡ true → i < j
@@ -121,5 +96,5 @@ module _ (items : List Item) (i : ℕ) where
       in is_before-next j
       ∙ or_right (is_directly_before items i j) (list_any (λ k. get_or (befores items i j) k false && is_directly_before items k j)
       (numbers j))
-      (list_any_numbers-at (λ k. get_or (befores items i j) k false && is_directly_before items k j) j k below
-      (both (get_or (befores items i j) k false) (is_directly_before items k j) (befores-at j k below ∙ computed-before k p) h))
+      (any-numbers (λ k. get_or (befores items i j) k false && is_directly_before items k j) j k below
+      (and_from (get_or (befores items i j) k false) (is_directly_before items k j) (befores-at j k below ∙ computed-before k p) h))

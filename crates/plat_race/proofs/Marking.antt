@@ -1,12 +1,13 @@
 -- one more item: what each mark becomes
 use Rattle.std.specs.Prelude.{◌≡◌, ◌≢◌, ◌⊎◌, ℕ, suc, ◌<◌, nat_lt, ◌&&◌, Bool, true, false, max, List, refl}
 use Rattle.std.proofs.Common.{ap, sym, ◌∙◌, inl, inr, arith, ⊎_elim, subst}
-use Rattle.std.proofs.lemmas.Bool.{and_parts, true≢false}
+use Rattle.std.proofs.lemmas.Bool.{and_parts, true≢false, and_from}
 use Rattle.std.proofs.lemmas.Bool.Decides.{nat_tests}
 use Rattle.plat_base.specs.declared.items.Access.{Access}
 use Rattle.plat_base.specs.declared.items.Item.{Item}
 use Rattle.plat_base.specs.declared.items.Item.TheVariants as item
-use Rattle.plat_race.specs.Races.{item_at, on_access, of_two, is_add, is_linked, is_directly_before, IsBefore, directly, by_way_of}
+use Rattle.plat_base.specs.Items.{is_access_that}
+use Rattle.plat_race.specs.Races.{item_at, of_two, is_add, is_linked, is_directly_before, IsBefore, directly, by_way_of}
 use Rattle.plat_race.specs.Marks.{is_by, adds_to, Reaches, IsMark, IsClock, IsLast}
 use Rattle.plat_race.proofs.Befores.{directly-below, before-below}
 
@@ -162,10 +163,6 @@ module _ (items : List Item) (test other : Item → Bool) (n : ℕ) where
 
 -- ---- what is directly before an access
 
-both : (b c : Bool) → b ≡ true → c ≡ true → (b && c) ≡ true
-both true c h k = k
-both false c h k = absurd cc
-
 module _ (items : List Item) (n : ℕ) (a : Access) (here : item_at items n ≡ item.Access a) where
   -- the item is by its actor, and by no other
   pub by-actor : is_by a.actor (item_at items n) ≡ true
@@ -174,31 +171,31 @@ module _ (items : List Item) (n : ℕ) (a : Access) (here : item_at items n ≡ 
   pub by-other : (b : ℕ) → b ≢ a.actor → is_by b (item_at items n) ≡ false
   by-other b apart = rw here (grind (arith, nat_tests))
 
-  directly-to : (k : ℕ) → k < n → on_access (λ c. is_linked c a) (item_at items k) ≡ true → is_directly_before items k n ≡ true
-  directly-to k l h = both (nat_lt k n) (of_two is_linked (item_at items k) (item_at items n)) (grind (arith, nat_tests)) (rw here h)
+  directly-to : (k : ℕ) → k < n → is_access_that (λ c. is_linked c a) (item_at items k) ≡ true → is_directly_before items k n ≡ true
+  directly-to k l h = and_from (nat_lt k n) (of_two is_linked (item_at items k) (item_at items n)) (grind (arith, nat_tests)) (rw here h)
 
-  directly-from : (k : ℕ) → is_directly_before items k n ≡ true → on_access (λ c. is_linked c a) (item_at items k) ≡ true
+  directly-from : (k : ℕ) → is_directly_before items k n ≡ true → is_access_that (λ c. is_linked c a) (item_at items k) ≡ true
   directly-from k h = rw here at (and_parts (nat_lt k n) (of_two is_linked (item_at items k) (item_at items n)) h).1
 
-  linked-own : (i : Item) → is_by a.actor i ≡ true → on_access (λ c. is_linked c a) i ≡ true
+  linked-own : (i : Item) → is_by a.actor i ≡ true → is_access_that (λ c. is_linked c a) i ≡ true
   linked-own (item.Access c) h = grind (arith, nat_tests)
   linked-own (item.Change c) h = absurd cc
   linked-own (item.Applied c) h = absurd cc
   linked-own (item.Switch c) h = absurd cc
 
-  linked-adds : is_add a.kind ≡ true → (i : Item) → adds_to a.page a.word i ≡ true → on_access (λ c. is_linked c a) i ≡ true
+  linked-adds : is_add a.kind ≡ true → (i : Item) → adds_to a.page a.word i ≡ true → is_access_that (λ c. is_linked c a) i ≡ true
   linked-adds adds (item.Access c) h = grind (arith, nat_tests)
   linked-adds adds (item.Change c) h = absurd cc
   linked-adds adds (item.Applied c) h = absurd cc
   linked-adds adds (item.Switch c) h = absurd cc
 
-  own_linked : is_add a.kind ≡ false → (i : Item) → on_access (λ c. is_linked c a) i ≡ true → is_by a.actor i ≡ true
+  own_linked : is_add a.kind ≡ false → (i : Item) → is_access_that (λ c. is_linked c a) i ≡ true → is_by a.actor i ≡ true
   own_linked alone (item.Access c) h = grind (arith, nat_tests)
   own_linked alone (item.Change c) h = absurd cc
   own_linked alone (item.Applied c) h = absurd cc
   own_linked alone (item.Switch c) h = absurd cc
 
-  own_or_adds : (i : Item) → on_access (λ c. is_linked c a) i ≡ true → (is_by a.actor i ≡ true) ⊎ (adds_to a.page a.word i ≡ true)
+  own_or_adds : (i : Item) → is_access_that (λ c. is_linked c a) i ≡ true → (is_by a.actor i ≡ true) ⊎ (adds_to a.page a.word i ≡ true)
   own_or_adds (item.Access c) h = grind (arith, nat_tests)
   own_or_adds (item.Change c) h = absurd cc
   own_or_adds (item.Applied c) h = absurd cc

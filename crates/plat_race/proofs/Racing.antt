@@ -1,5 +1,6 @@
 -- the races that end at an item, by its clock and by the last accesses of its word
-use Rattle.std.specs.Prelude.{◌≡◌, ◌≢◌, ◌⊎◌, ℕ, zero, suc, ◌+◌, ◌<◌, ◌≤◌, ◌==◌, nat_lt, nat_le, ◌&&◌, not, Bool, true, false, List, [], ◌∷◌, length, find, Option, Some, None, is_some, slice_index, refl}
+use Rattle.std.specs.Prelude.{◌≡◌, ◌≢◌, ◌⊎◌, ℕ, zero, suc, ◌+◌, ◌<◌, ◌≤◌, ◌==◌, nat_lt, nat_le, ◌&&◌, not, Bool, true, false, List, [], ◌∷◌}
+use Rattle.std.specs.Prelude.{length, find, Option, Some, None, is_some, slice_index, refl}
 use Rattle.std.specs.Option.{option_map}
 use Rattle.std.specs.List.{fold, range_with_len}
 use Rattle.std.proofs.Common.{ap, sym, ◌∙◌, inl, inr, arith, ⊎_elim, subst}
@@ -12,40 +13,20 @@ use Rattle.plat_base.specs.declared.items.Access.{Access}
 use Rattle.plat_base.specs.declared.items.Item.{Item}
 use Rattle.plat_base.specs.declared.items.Item.TheVariants as item
 use Rattle.plat_race.specs.declared.pairs.Pair.{Pair}
-use Rattle.plat_race.specs.Races.{item_at, on_access, of_two, is_conflict, is_before, directly, is_race, pair, race_at, or_later, first_race}
+use Rattle.plat_base.specs.Items.{is_access_that}
+use Rattle.plat_race.specs.Races.{item_at, of_two, is_conflict, is_before, directly, is_race, pair, race_at, or_later}
+use Rattle.plat_race.specs.Races.{first_race}
 use Rattle.plat_race.specs.Marks.{is_by, uses, writes, IsClock, AreClocks, AreLasts}
 use Rattle.plat_laws.proofs.NumberLaws.{find_numbers-none}
 use Rattle.plat_race.proofs.Befores.{before-computed, computed-before}
 use Rattle.plat_race.proofs.Marking.{own-lead}
+use Rattle.plat_base.proofs.ListLemmas.{find-range_none, find-numbers_none, find-range_first}
 
 -- ---- the first number below a bound that passes a test
 
-find_range-first :
-    (test : ℕ → Bool) (a n k : ℕ) → a ≤ k → k < a + n → test k ≡ true → ((i : ℕ) → a ≤ i → i < k → test i ≡ false)
-    → find test (range_with_len a n) ≡ Some k
-find_range-first test a zero k l u h none = absurd (omega arith)
-find_range-first test a (suc n) k l u h none =
-    ⊎_elim
-    (λ (here : a ≡ k). let t : test a ≡ true = rw here h in rw t (ap Some here))
-    (λ (later : a < k). let t : test a ≡ false = none a (omega arith) later
-    in rw t (find_range-first test (a + 1) n k (omega arith) (omega arith) h (λ i low high. none i (omega arith) high)))
-    (cases a k l)
-  where
-    cases : (a k : ℕ) → a ≤ k → (a ≡ k) ⊎ (a < k)
-    cases a k l = grind arith
-
 pub find_numbers-first :
     (test : ℕ → Bool) (n k : ℕ) → k < n → test k ≡ true → ((i : ℕ) → i < k → test i ≡ false) → find test (numbers n) ≡ Some k
-find_numbers-first test n k l h none = find_range-first test 0 n k (omega arith) (omega arith) h (λ i low high. none i high)
-
-find_range-all : (test : ℕ → Bool) (a n : ℕ) → ((i : ℕ) → a ≤ i → i < a + n → test i ≡ false) → find test (range_with_len a n) ≡ None
-find_range-all test a zero none = refl
-find_range-all test a (suc n) none =
-    let t : test a ≡ false = none a (omega arith) (omega arith) in rw t (find_range-all test (a + 1) n (λ i low high. none i
-    (omega arith) (omega arith)))
-
-pub find_numbers-all : (test : ℕ → Bool) (n : ℕ) → ((i : ℕ) → i < n → test i ≡ false) → find test (numbers n) ≡ None
-find_numbers-all test n none = find_range-all test 0 n (λ i low high. none i (omega arith))
+find_numbers-first test n k l h none = find-range_first test 0 n k (omega arith) (omega arith) h (λ i low high. none i high)
 
 -- ---- the first race, by the races that end at each place
 
@@ -113,9 +94,9 @@ first-each items j h l = later-each (race_at items) 0 (length items) j h (omega 
 
 -- ---- no race ends at an item that is no access
 
-pub race_at-other : (items : List Item) (n : ℕ) → ((test : Access → Bool) → on_access test (item_at items n) ≡ false)
+pub race_at-other : (items : List Item) (n : ℕ) → ((test : Access → Bool) → is_access_that test (item_at items n) ≡ false)
     → race_at items n ≡ None
-race_at-other items n none = ap (option_map (λ i. pair i n)) (find_numbers-all (λ i. is_race items i n) n (λ i l. no_race i))
+race_at-other items n none = ap (option_map (λ i. pair i n)) (find-numbers_none (λ i. is_race items i n) n (λ i l. no_race i))
   where
     no_pair : (i : Item) → of_two is_conflict i (item_at items n) ≡ false
     no_pair (item.Access a) = none (is_conflict a)
@@ -143,8 +124,8 @@ module _ (items : List Item) (n : ℕ) (a : Access) (here : item_at items n ≡ 
       in rw (below, there, here) refl
 
   -- not of an access
-  pub race-other : (i : ℕ) → ((test : Access → Bool) → on_access test (item_at items i) ≡ false) → is_race items i n ≡ false
-  race-other i none = rw (none (λ c. on_access (is_conflict c) (item_at items n))) (and_false (nat_lt i n) (not (is_before items i n)))
+  pub race-other : (i : ℕ) → ((test : Access → Bool) → is_access_that test (item_at items i) ≡ false) → is_race items i n ≡ false
+  race-other i none = rw (none (λ c. is_access_that (is_conflict c) (item_at items n))) (and_false (nat_lt i n) (not (is_before items i n)))
     where
       and_false : (b c : Bool) → (b && false && c) ≡ false
       and_false true c = refl
@@ -175,7 +156,7 @@ module _ (items : List Item) (n : ℕ) (a : Access) (here : item_at items n ≡ 
       (arith, nat_tests))) clock)
 
   -- an item is an access, or passes no test of accesses
-  access_or : (i : Item) → ((c : Access) × (i ≡ item.Access c)) ⊎ ((test : Access → Bool) → on_access test i ≡ false)
+  access_or : (i : Item) → ((c : Access) × (i ≡ item.Access c)) ⊎ ((test : Access → Bool) → is_access_that test i ≡ false)
   access_or (item.Access c) = inl (c, refl)
   access_or (item.Change c) = inr (λ test. refl)
   access_or (item.Applied c) = inr (λ test. refl)
@@ -185,7 +166,7 @@ module _ (items : List Item) (n : ℕ) (a : Access) (here : item_at items n ≡ 
   pub record Meets (test : ℕ → Item → Bool) : Type 0 where
     pub all : (c : Access) → is_conflict c a ≡ true → test c.actor (item.Access c) ≡ true
     pub only : (c : Access) (b : ℕ) → test b (item.Access c) ≡ true → (c.actor ≡ b) × (b ≢ a.actor → is_conflict c a ≡ true)
-    pub accesses : (b : ℕ) (i : Item) → ((t : Access → Bool) → on_access t i ≡ false) → test b i ≡ false
+    pub accesses : (b : ℕ) (i : Item) → ((t : Access → Bool) → is_access_that t i ≡ false) → test b i ≡ false
 
   module _ (test : ℕ → Item → Bool) (meets : Meets test) (lasts clock : List ℕ) (last : AreLasts items test n lasts)
       (heard : AreClocks items n clock) where
@@ -217,7 +198,7 @@ module _ (items : List Item) (n : ℕ) (a : Access) (here : item_at items n ≡ 
     quiet-none :
         ((i : ℕ) (c : Access) → item_at items i ≡ item.Access c → c.actor < MODULES)
         → ((b : ℕ) → b < MODULES → slice_index lasts b ≤ slice_index clock b) → is_some (race_at items n) ≡ false
-    quiet-none few low = rw (find_numbers-all (λ i. is_race items i n) n (quiet few low)) refl
+    quiet-none few low = rw (find-numbers_none (λ i. is_race items i n) n (quiet few low)) refl
 
     -- a last access above the clock: a race ends here
     loud : (b : ℕ) → b < MODULES → slice_index clock b < slice_index lasts b → (i : ℕ) × (i < n) × (is_race items i n ≡ true)

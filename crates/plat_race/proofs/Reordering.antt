@@ -1,5 +1,6 @@
 -- where no race ends anywhere and memory is legal, it is legal in every order that keeps before
-use Rattle.std.specs.Prelude.{◌≡◌, ◌≢◌, ◌⊎◌, ℕ, zero, suc, ◌+◌, ◌<◌, ◌≤◌, ◌==◌, nat_lt, ◌&&◌, ◌||◌, not, if◌then◌else◌, Bool, true, false, List, [], ◌∷◌, ◌++◌, length, map, filter, find, AllPairs, Contains, Option, None, Some, refl, IsTrue}
+use Rattle.std.specs.Prelude.{◌≡◌, ◌≢◌, ◌⊎◌, ℕ, zero, suc, ◌+◌, ◌<◌, ◌≤◌, ◌==◌, nat_lt, ◌&&◌, ◌||◌, not, if◌then◌else◌, Bool, true, false}
+use Rattle.std.specs.Prelude.{List, [], ◌∷◌, ◌++◌, length, map, filter, find, AllPairs, Contains, Option, None, Some, refl, IsTrue}
 use Rattle.std.specs.Option.{option_map}
 use Rattle.std.specs.List.{fold}
 use Rattle.std.proofs.Common.{ap, sym, ◌∙◌, inl, inr, arith, ⊎_elim, subst, take, drop}
@@ -15,11 +16,13 @@ use Rattle.plat_base.specs.declared.items.Access.{Access}
 use Rattle.plat_base.specs.declared.items.Item.{Item}
 use Rattle.plat_base.specs.declared.items.Item.TheVariants as item
 use Rattle.plat_laws.proofs.NumberLaws.{find_numbers-none}
-use Rattle.plat_race.specs.Races.{no_item, item_at, same_cell, is_conflict, is_linked, IsBefore, directly, is_before, is_race, pair, first_race}
+use Rattle.plat_race.specs.Races.{no_item, item_at, same_cell, is_conflict, is_linked, IsBefore, directly, is_before, is_race, pair}
+use Rattle.plat_race.specs.Races.{first_race}
 use Rattle.plat_race.specs.Orders.{KeepsOrder, EveryOrderIsLegal}
 use Rattle.plat_race.proofs.Befores.{numbers-more, before-computed}
 use Rattle.plat_race.proofs.Racing.{first-each}
-use Rattle.plat_race.proofs.Rising.{Has, EachPair, has-contained, has-filter, filter-has, each-pairs, pairs-front, pair-before, pair-after, rising-filter, same_rising, has-range, range-has, rising-range, has-append}
+use Rattle.plat_race.proofs.Rising.{Has, EachPair, has-contained, has-filter, filter-has, each-pairs, pairs-front, pair-before, pair-after}
+use Rattle.plat_race.proofs.Rising.{rising-filter, same_rising, has-range, range-has, rising-range, has-append}
 
 -- ---- folds over the items at some places
 

@@ -11,10 +11,12 @@ use Rattle.plat_base.specs.Flat.{is_write}
 use Rattle.plat_base.specs.declared.items.Access.{Access}
 use Rattle.plat_base.specs.declared.items.Item.{Item}
 use Rattle.plat_base.specs.declared.items.Item.TheVariants as item
-use Rattle.plat_race.specs.Races.{item_at, on_access, is_add, is_directly_before}
+use Rattle.plat_base.specs.Items.{is_access_that}
+use Rattle.plat_race.specs.Races.{item_at, is_add, is_directly_before}
 use Rattle.plat_race.specs.Marks.{is_by, adds_to, uses, writes, AreMarks, AreClocks, AreLasts, IsLast}
 use Rattle.plat_race.specs.Tabled.{row_at, word_row, FitTables, AreAfter}
-use Rattle.plat_race.proofs.Marking.{mark-kept, last-kept, last-here, mark-clock, mark-own, clock-alone, clock-joined, by-actor, by-other, own-lead, adds-lead, alone-led, add-led}
+use Rattle.plat_race.proofs.Marking.{mark-kept, last-kept, last-here, mark-clock, mark-own, clock-alone, clock-joined, by-actor, by-other}
+use Rattle.plat_race.proofs.Marking.{own-lead, adds-lead, alone-led, add-led}
 
 -- ---- rows
 
@@ -36,7 +38,7 @@ row_within pages words page word p w = omega (arith, mul-add-lt page words word 
 
 -- ---- an item that is no access
 
-pub not_access : (i : Item) → ((a : Access) → i ≡ item.Access a → ⊥) → (test : Access → Bool) → on_access test i ≡ false
+pub not_access : (i : Item) → ((a : Access) → i ≡ item.Access a → ⊥) → (test : Access → Bool) → is_access_that test i ≡ false
 not_access (item.Access a) none test = absurd (none a refl)
 not_access (item.Change c) none test = refl
 not_access (item.Applied x) none test = refl
@@ -44,7 +46,7 @@ not_access (item.Switch s) none test = refl
 
 pub after-other :
     (items : List Item) (n pages words : ℕ) (clocks adds accesses stores : List (List ℕ))
-    → ((test : Access → Bool) → on_access test (item_at items n) ≡ false) → AreAfter items n pages words clocks adds accesses stores
+    → ((test : Access → Bool) → is_access_that test (item_at items n) ≡ false) → AreAfter items n pages words clocks adds accesses stores
     → AreAfter items (suc n) pages words clocks adds accesses stores
 after-other items n pages words clocks adds accesses stores none old = record {
   own = λ q l b k. mark-kept items (is_by q) n b (slice_index (row_at clocks q) b) (none (λ a. a.actor == q)) (old.own q l b k);

@@ -6,7 +6,8 @@ use Rattle.plat_base.specs.Flat.{is_write}
 use Rattle.plat_base.specs.declared.items.Access.{Access}
 use Rattle.plat_base.specs.declared.items.Item.{Item}
 use Rattle.plat_base.specs.declared.items.Item.TheVariants as item
-use Rattle.plat_race.specs.Races.{item_at, on_access, is_add, IsBefore, is_race}
+use Rattle.plat_base.specs.Items.{is_access_that}
+use Rattle.plat_race.specs.Races.{item_at, is_add, IsBefore, is_race}
 
 -- where the item is an access, its actor has a mark; the daemon makes none
 abbrev pub HasMark : Item → Type 0
@@ -15,16 +16,16 @@ HasMark i = (a : Access) → i ≡ item.Access a → a.actor < MODULES
 -- ---- which items
 
 abbrev pub is_by : ℕ → Item → Bool
-is_by b i = on_access (λ a. a.actor == b) i
+is_by b i = is_access_that (λ a. a.actor == b) i
 
 abbrev pub adds_to : (page word : ℕ) → Item → Bool
-adds_to page word i = on_access (λ a. is_add a.kind && a.page == page && a.word == word) i
+adds_to page word i = is_access_that (λ a. is_add a.kind && a.page == page && a.word == word) i
 
 abbrev pub uses : (page word b : ℕ) → Item → Bool
-uses page word b i = on_access (λ a. a.actor == b && a.page == page && a.word == word) i
+uses page word b i = is_access_that (λ a. a.actor == b && a.page == page && a.word == word) i
 
 abbrev pub writes : (page word b : ℕ) → Item → Bool
-writes page word b i = on_access (λ a. is_write a.kind && a.actor == b && a.page == page && a.word == word) i
+writes page word b i = is_access_that (λ a. is_write a.kind && a.actor == b && a.page == page && a.word == word) i
 
 -- ---- one mark
 

@@ -4,7 +4,8 @@ use Rattle.plat_base.specs.Machine.{Machine}
 use Rattle.plat_base.specs.Histories.{IsLegalMemory}
 use Rattle.plat_base.specs.declared.items.Item.{Item}
 use Rattle.plat_base.specs.declared.items.Item.TheVariants as item
-use Rattle.plat_race.specs.Races.{item_at, is_access, IsBefore}
+use Rattle.plat_base.specs.Items.{is_access}
+use Rattle.plat_race.specs.Races.{item_at, IsBefore}
 
 -- the actor, the page and the word of an access are the machine's
 abbrev pub is_in_range : Machine → Item → Bool

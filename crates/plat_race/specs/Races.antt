@@ -1,9 +1,11 @@
 -- races of a history: what stands before what, which accesses conflict, and the first conflicting pair that has no order
-use Rattle.std.specs.Prelude.{◌≡◌, ℕ, suc, ◌==◌, nat_lt, ◌&&◌, ◌||◌, not, Bool, true, false, List, [], ◌∷◌, ◌++◌, length, find, Option, Some, None, slice_index_or}
+use Rattle.std.specs.Prelude.{◌≡◌, ℕ, suc, ◌==◌, nat_lt, ◌&&◌, ◌||◌, not, Bool, true, false, List, [], ◌∷◌, ◌++◌, length, find, Option}
+use Rattle.std.specs.Prelude.{Some, None, slice_index_or}
 use Rattle.std.specs.Option.{option_map}
 use Rattle.std.specs.List.{fold, list_any}
 use Rattle.plat_base.specs.Pages.{numbers}
 use Rattle.plat_base.specs.Flat.{is_write}
+use Rattle.plat_base.specs.Items.{is_access_that}
 use Rattle.plat_base.specs.declared.items.Kind.{Kind}
 use Rattle.plat_base.specs.declared.items.Kind.TheVariants as kind
 use Rattle.plat_base.specs.declared.items.Access.{Access}
@@ -20,19 +22,9 @@ no_item = item.Switch (record { actor = 0; space = 0 })
 abbrev pub item_at : List Item → ℕ → Item
 item_at items i = slice_index_or items i no_item
 
--- the item is an access that passes the test
-abbrev pub on_access : (Access → Bool) → Item → Bool
-on_access test (item.Access a) = test a
-on_access test (item.Change c) = false
-on_access test (item.Applied x) = false
-on_access test (item.Switch s) = false
-
-abbrev pub is_access : Item → Bool
-is_access i = on_access (λ a. true) i
-
 -- both items are accesses, and the two pass the test
 abbrev pub of_two : (Access → Access → Bool) → Item → Item → Bool
-of_two test i j = on_access (λ a. on_access (test a) j) i
+of_two test i j = is_access_that (λ a. is_access_that (test a) j) i
 
 -- ---- two accesses
 

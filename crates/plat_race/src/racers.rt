@@ -26,7 +26,8 @@ impl Model for Racer {
 
     ghost view = { λ it. record { pages = it.tables.pages; words = it.tables.words } };
 
-    ghost invariant = { λ it. AreBlank it.tables.clocks.items it.tables.adds.items it.tables.accesses.items it.tables.writes.items };
+    ghost invariant = { λ it. AreBlank it.tables.clocks.items it.tables.adds.items it.tables.accesses.items
+        it.tables.writes.items };
 }
 
 impl Racer {

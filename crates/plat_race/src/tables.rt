@@ -33,7 +33,8 @@ impl Tables {
     pub fn new(alloc: Global, cfg: &Config) -> Result<Tables, OutOfMemory>
         ensures pages { IfOk result (λ tables. tables.pages ≡ cfg.now.pages) }
         ensures words { IfOk result (λ tables. tables.words ≡ cfg.now.words) }
-        ensures blank { IfOk result (λ t. AreBlank t.clocks.items t.adds.items t.accesses.items t.writes.items) }
+        ensures blank { IfOk result (λ t. AreBlank t.clocks.items t.adds.items t.accesses.items
+            t.writes.items) }
     {
         let cells = (cfg.pages * cfg.words) as usize;
         Ok(Tables {

@@ -1,49 +1,27 @@
 //! First races of histories that were worked out by hand.
-ghost use Rattle.std.specs.Prelude.{◌≡◌, [], IfOk, IsTrue};
+ghost use Rattle.std.specs.Prelude.{◌≡◌, IfOk, IsTrue};
 ghost use Rattle.plat_base.specs.Seen.{machine};
 ghost use Rattle.plat_race.specs.Orders.{is_in_range, AreInRange};
 ghost use Rattle.plat_race.specs.Tried.{tried};
 
 use crate::{Pair, Racer};
 use plat_base::{
-    Access, Applied, Config, Frame, GuestText, Item, Kind, List, Message, Moment, OutOfMemory,
-    Plan, PolicyKind,
+    Access, Applied, Config, Frame, Item, Kind, Message, Moment, OutOfMemory, PolicyKind,
 };
+use plat_samples::{Sizes, idle_nodes};
 use std::alloc::Global;
 use std::test::Fail;
-
-fn guest(alloc: Global) -> GuestText
-    ensures space { result.space ≡ 0 }
-    ensures code { result.code.items ≡ [] }
-    ensures labels { result.labels.items ≡ [] }
-{
-    GuestText {
-        space: 0,
-        code: List::new(alloc),
-        labels: List::new(alloc),
-    }
-}
 
 fn three_nodes(alloc: Global) -> Result<Config, OutOfMemory>
     ensures { IfOk result (λ cfg. machine cfg ≡ tried) }
 {
-    let mut guests = List::with_room(alloc, 3)?;
-    guests.push(guest(alloc));
-    guests.push(guest(alloc));
-    guests.push(guest(alloc));
-    Ok(Config {
+    let sizes = Sizes {
         nodes: 3,
         frames: 2,
-        words: 4,
         pages: 2,
-        policy: PolicyKind::Place,
         budget: 1,
-        schedule: Plan::Robin,
-        distances: List::new(alloc),
-        entries: List::new(alloc),
-        inits: List::new(alloc),
-        guests,
-    })
+    };
+    idle_nodes(alloc, sizes, PolicyKind::Place, &[], &[])
 }
 
 // An access; only what races are about differs.

@@ -4,7 +4,8 @@ use Rattle.std.specs.Prelude.{◌==◌, ◌/◌, slice_index_or, ◌%◌, Some, 
 use Rattle.std.specs.List.{fold}
 use Rattle.std.proofs.lemmas.List.{length-take}
 use Rattle.plat_base.specs.Machine.{Machine}
-use Rattle.plat_base.specs.Cache.{Cache, Place, cache_of, cache_after, cache_start, accessed, accessed_through, serves_access, with_places, without_page, without_entry, removes_any, no_places}
+use Rattle.plat_base.specs.Cache.{Cache, Place, cache_of, cache_after, cache_start, accessed, accessed_through, serves_access, with_places}
+use Rattle.plat_base.specs.Cache.{without_page, without_entry, removes_any, no_places}
 use Rattle.plat_base.specs.Pages.{entry_at}
 use Rattle.plat_base.specs.Flat.{is_write}
 use Rattle.plat_base.specs.declared.items.Item.{Item}
@@ -35,9 +36,13 @@ IsNext-with_places : (c : Cache) (places : List (Option Place)) → IsNext c (wi
 IsNext-with_places c places = record { hits = omega arith; misses = omega arith }
 
 IsNext-after : (m : Machine) (q : ℕ) (c : Cache) (i : Item) → IsNext c (cache_after m q c i)
-IsNext-after m q c (item.Access a) = IsNext-if (a.actor == q) c _ _ (IsNext-through (entry_at m a.space (a.addr / m.words)) (a.addr / m.words) (is_write a.kind) c) (IsNext-itself c)
-IsNext-after m q c (item.Change x) = IsNext-if (x.actor == q && removes_any x) c _ _ (IsNext-with_places c (map (without_page m x.page) c.places)) (IsNext-itself c)
-IsNext-after m q c (item.Applied x) = IsNext-if (x.actor == q) c _ _ (IsNext-with_places c (map (without_entry x.entry) c.places)) (IsNext-itself c)
+IsNext-after m q c (item.Access a) =
+    IsNext-if (a.actor == q) c _ _ (IsNext-through (entry_at m a.space (a.addr / m.words)) (a.addr / m.words) (is_write a.kind) c)
+    (IsNext-itself c)
+IsNext-after m q c (item.Change x) =
+    IsNext-if (x.actor == q && removes_any x) c _ _ (IsNext-with_places c (map (without_page m x.page) c.places)) (IsNext-itself c)
+IsNext-after m q c (item.Applied x) = IsNext-if (x.actor == q) c _ _ (IsNext-with_places c (map (without_entry x.entry) c.places))
+    (IsNext-itself c)
 IsNext-after m q c (item.Switch s) = IsNext-if (s.actor == q) c _ _ (IsNext-with_places c no_places) (IsNext-itself c)
 
 record IsWithin (before after : Cache) (n : ℕ) : Type 0 where
@@ -51,7 +56,8 @@ within-fold m q c (i ∷ is) =
     let rest = within-fold m q (cache_after m q c i) is in
     record { hits = omega (arith, step.hits, rest.hits); misses = omega (arith, step.misses, rest.misses) }
 
-pub cache_room : (m : Machine) (q : ℕ) (items : List Item) (i : ℕ) → i < length items → length items ≤ 2621440 → ((cache_of m (take i items) q).hits < most) × ((cache_of m (take i items) q).misses < most)
+pub cache_room : (m : Machine) (q : ℕ) (items : List Item) (i : ℕ) → i < length items → length items ≤ 2621440 →
+    ((cache_of m (take i items) q).hits < most) × ((cache_of m (take i items) q).misses < most)
 cache_room m q items i h few =
     let within = within-fold m q cache_start (take i items) in
     (omega (arith, within.hits, length-take {A = Item}), omega (arith, within.misses, length-take {A = Item}))

@@ -16,7 +16,8 @@ use Rattle.plat_report.specs.Runs.{RunSeen, prints_from, printed_then, turn_of, 
 use Rattle.plat_report.proofs.WritingLemmas.{adds_none, adds_more, adds_part}
 
 -- of what a run prints on its turns some was written, and the rest is what the run prints on those that are left
-pub record IsPrinted {K : Type 0} (sink : Ghosts K) (m : Machine) (q : ℕ) (start : RunSeen) (turns : ℕ) (old : K) (run : RunSeen) (left : ℕ) (now : K) : Type 0 where
+pub record IsPrinted {K : Type 0} (sink : Ghosts K) (m : Machine) (q : ℕ) (start : RunSeen) (turns : ℕ) (old : K) (run : RunSeen) (left : ℕ)
+    (now : K) : Type 0 where
   pub done : List Words
   pub whole : map (print_line q) (prints_from m start turns) ≡ done ++ map (print_line q) (prints_from m run left)
   pub added : AddsLines {E = WriteFault} sink old now (Ok (tt {0})) done
@@ -35,7 +36,8 @@ gone_by-node m run want.Halted = refl
 gone_by-node m run want.Trap = refl
 
 -- the prints of one turn and of the turns after it
-prints-cut : (m : Machine) (run : RunSeen) (left next : ℕ) → left ≡ next + 1 → prints_from m run left ≡ printed_then (turn_of m run) (prints_from m (gone m run) next)
+prints-cut : (m : Machine) (run : RunSeen) (left next : ℕ) → left ≡ next + 1 →
+    prints_from m run left ≡ printed_then (turn_of m run) (prints_from m (gone m run) next)
 prints-cut m run left next e = rw (e, add-one) refl
 
 pub printed_none :
@@ -52,9 +54,11 @@ printed_quiet sink m q start turns old run left next now h e t =
     record { done = h.done; whole = rw cut at h.whole; added = h.added; node = gone_by-node m run _ ∙ h.node }
 
 pub printed_more :
-    {K : Type 0} (sink : Ghosts K) (m : Machine) (q : ℕ) (start : RunSeen) (turns : ℕ) (old : K) (run : RunSeen) (left next : ℕ) (now then : K) (value : ℕ)
+    {K : Type 0} (sink : Ghosts K) (m : Machine) (q : ℕ) (start : RunSeen) (turns : ℕ) (old : K) (run : RunSeen) (left next : ℕ)
+    (now then : K) (value : ℕ)
     → IsPrinted sink m q start turns old run left now → left ≡ next + 1 → Prints value ≡ turn_of m run
-    → AddsLines {E = WriteFault} sink now then (Ok (tt {0})) (print_line q value ∷ []) → IsPrinted sink m q start turns old (gone m run) next then
+    → AddsLines {E = WriteFault} sink now then (Ok (tt {0})) (print_line q value ∷ []) →
+    IsPrinted sink m q start turns old (gone m run) next then
 printed_more sink m q start turns old run left next now then value h e t a =
     let cut : prints_from m run left ≡ value ∷ prints_from m (gone m run) next = rw (← t) at (prints-cut m run left next e) in
     record {
@@ -74,7 +78,8 @@ printed_stopped sink m q start turns old run left next now h e t =
     rw whole h.added
 
 pub printed_failed :
-    {K : Type 0} (sink : Ghosts K) (m : Machine) (q : ℕ) (start : RunSeen) (turns : ℕ) (old : K) (run : RunSeen) (left next : ℕ) (now then : K) (value : ℕ) (e fault : WriteFault)
+    {K : Type 0} (sink : Ghosts K) (m : Machine) (q : ℕ) (start : RunSeen) (turns : ℕ) (old : K) (run : RunSeen) (left next : ℕ)
+    (now then : K) (value : ℕ) (e fault : WriteFault)
     → IsPrinted sink m q start turns old run left now → left ≡ next + 1 → Prints value ≡ turn_of m run
     → AddsLines sink now then (Err e) (print_line q value ∷ [])
     → AddsLines sink old then (Err fault) (map (print_line q) (prints_from m start turns))
@@ -82,7 +87,8 @@ printed_failed sink m q start turns old run left next now then value e fault h k
     let cut : prints_from m run left ≡ value ∷ prints_from m (gone m run) next = rw (← t) at (prints-cut m run left next k) in
     let rest : List Words = map (print_line q) (prints_from m (gone m run) next) in
     let whole : map (print_line q) (prints_from m start turns) ≡ h.done ++ (print_line q value ∷ rest) = rw cut at h.whole in
-    rw whole (adds_more sink old now then (Err fault) h.done (print_line q value ∷ rest) h.added (adds_part sink now then e fault (print_line q value ∷ []) rest a))
+    rw whole (adds_more sink old now then (Err fault) h.done (print_line q value ∷ rest) h.added
+    (adds_part sink now then e fault (print_line q value ∷ []) rest a))
 
 pub printed_all :
     {K : Type 0} (sink : Ghosts K) (m : Machine) (q : ℕ) (start : RunSeen) (turns : ℕ) (old : K) (run : RunSeen) (left : ℕ) (now : K)

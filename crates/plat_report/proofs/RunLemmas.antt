@@ -3,7 +3,9 @@ use Rattle.std.proofs.Common.{◌≡◌, ℕ, zero, suc, List, [], ◌∷◌, �
 use Rattle.std.specs.Prelude.{slice_get}
 use Rattle.std.proofs.lemmas.List.{append-nil, drop-drop}
 use Rattle.plat_base.specs.Machine.{Machine}
-use Rattle.plat_base.specs.GuestRun.{GuestRun, Operation, Reaches, Switches, Outcome, GoesOn, HasHalted, HasTrapped, want_of, guest_after, guest_run, guest_more, guest_does, run_start, with_access, with_turn, with_end, reach_of, value_for, values_taken}
+use Rattle.plat_base.specs.GuestRun.{GuestRun, Operation, Reaches, Switches, Outcome, GoesOn, HasHalted, HasTrapped, want_of, guest_after}
+use Rattle.plat_base.specs.GuestRun.{guest_run, guest_more, guest_does, run_start, with_access, with_turn, with_end, reach_of, value_for}
+use Rattle.plat_base.specs.GuestRun.{values_taken}
 use Rattle.plat_base.specs.declared.guests.Want.{Want}
 use Rattle.plat_base.specs.declared.guests.Want.TheVariants as want
 use Rattle.plat_base.specs.declared.items.Kind.{Kind}
@@ -16,7 +18,8 @@ run_on : Machine → (q : ℕ) → List ℕ → GuestRun → ℕ → GuestRun
 run_on m q vs r zero = r
 run_on m q vs r (suc t) = run_on m q vs (guest_more m q vs r r.outcome) t
 
-run_on-last : (m : Machine) (q : ℕ) (vs : List ℕ) (r : GuestRun) (t : ℕ) → run_on m q vs r (suc t) ≡ guest_more m q vs (run_on m q vs r t) (run_on m q vs r t).outcome
+run_on-last : (m : Machine) (q : ℕ) (vs : List ℕ) (r : GuestRun) (t : ℕ) →
+    run_on m q vs r (suc t) ≡ guest_more m q vs (run_on m q vs r t) (run_on m q vs r t).outcome
 unfolding run_on
 run_on-last m q vs r zero = refl
 run_on-last m q vs r (suc t) = run_on-last m q vs (guest_more m q vs r r.outcome) t
@@ -71,7 +74,8 @@ with_value m q vs r t k sp a o (Some v) hyp h e f = goes_on m q vs r t v (values
 
 does :
     (m : Machine) (q : ℕ) (vs : List ℕ) (r : GuestRun) (t : ℕ) → Prints m q vs t → r.outcome ≡ GoesOn → (w : Want) → want_of m q r.state ≡ w
-    → (run_on m q vs (guest_does m q vs r w) t).prints ≡ r.prints ++ printed_then (turn_by (drop r.used vs) w) (prints_from m (gone_by m (seen q vs r) w) t)
+    → (run_on m q vs (guest_does m q vs r w) t).prints
+    ≡ r.prints ++ printed_then (turn_by (drop r.used vs) w) (prints_from m (gone_by m (seen q vs r) w) t)
 does m q vs r t hyp h want.Local e = goes_on m q vs r t 0 0 [] [] hyp
 does m q vs r t hyp h (want.Access k sp a o) e =
     rw (value_for-left k vs r.used) (with_value m q vs r t k sp a o (value_for k vs r.used) hyp h e refl)
@@ -82,7 +86,8 @@ does m q vs r t hyp h want.Halted e =
 does m q vs r t hyp h want.Trap e =
     rw (run_on-stays m q vs (with_end r HasTrapped) t refl) (sym (append-nil r.prints))
 
-more-goes : (m : Machine) (q : ℕ) (vs : List ℕ) (r : GuestRun) (o : Outcome) → o ≡ GoesOn → guest_more m q vs r o ≡ guest_does m q vs r (want_of m q r.state)
+more-goes : (m : Machine) (q : ℕ) (vs : List ℕ) (r : GuestRun) (o : Outcome) → o ≡ GoesOn →
+    guest_more m q vs r o ≡ guest_does m q vs r (want_of m q r.state)
 more-goes m q vs r o h = rw h refl
 
 prints-on : (m : Machine) (q : ℕ) (vs : List ℕ) (t : ℕ) → Prints m q vs t
@@ -92,10 +97,12 @@ prints-on m q vs (suc t) r h =
     ap (λ (next : GuestRun). (run_on m q vs next t).prints) (more-goes m q vs r r.outcome h)
     ∙ (does m q vs r t (prints-on m q vs t) h (want_of m q r.state) refl)
 
-same_run : (g h : GuestSeen) (vs ws : List ℕ) → g ≡ h → vs ≡ ws → let a : RunSeen = record { guest = g; values = vs } in a ≡ record { guest = h; values = ws }
+same_run : (g h : GuestSeen) (vs ws : List ℕ) → g ≡ h → vs ≡ ws → let a : RunSeen = record { guest = g; values = vs } in
+    a ≡ record { guest = h; values = ws }
 same_run g h vs ws e f = rw (e, f) refl
 
-pub prints_from_start : (m : Machine) (q : ℕ) (vs : List ℕ) (t : ℕ) (run : RunSeen) → run.guest ≡ new_guest m q → run.values ≡ vs → prints_from m run t ≡ (guest_run m q vs t).prints
+pub prints_from_start : (m : Machine) (q : ℕ) (vs : List ℕ) (t : ℕ) (run : RunSeen) → run.guest ≡ new_guest m q → run.values ≡ vs →
+    prints_from m run t ≡ (guest_run m q vs t).prints
 unfolding run_on
 prints_from_start m q vs t run e f =
     let start = prints-on m q vs t (run_start m q) refl in

@@ -5,7 +5,9 @@ use Rattle.std.specs.List.{list_any}
 use Rattle.std.proofs.lemmas.List.{append-nil}
 use Rattle.plat_base.specs.Machine.{Machine}
 use Rattle.plat_base.specs.Pages.{program_of, entry_at}
-use Rattle.plat_base.specs.GuestRun.{GuestState, GuestRun, Outcome, GoesOn, HasHalted, HasTrapped, want_of, wanted, wanted_next, access_or_trap, guest_run, guest_more, guest_does, with_access, reach_of, value_for, Reach, address, register}
+use Rattle.plat_base.specs.GuestRun.{GuestState, GuestRun, Outcome, GoesOn, HasHalted, HasTrapped, want_of, wanted, wanted_next}
+use Rattle.plat_base.specs.GuestRun.{access_or_trap, guest_run, guest_more, guest_does, with_access, reach_of, value_for, Reach, address}
+use Rattle.plat_base.specs.GuestRun.{register}
 use Rattle.plat_base.specs.declared.guests.Instr.{Instr}
 use Rattle.plat_base.specs.declared.guests.Instr.TheVariants as instr
 use Rattle.plat_base.specs.declared.guests.Want.{Want}
@@ -56,16 +58,19 @@ rest-false : (a b : Bool) → (a || b) ≡ false → b ≡ false
 rest-false true b h = absurd cc
 rest-false false b h = h
 
-next-silent : (m : Machine) (s : GuestState) (code : List Instr) (at : ℕ) → list_any is_print code ≡ false → prints_value (wanted_next m s (slice_get code at)) ≡ false
+next-silent : (m : Machine) (s : GuestState) (code : List Instr) (at : ℕ) → list_any is_print code ≡ false →
+    prints_value (wanted_next m s (slice_get code at)) ≡ false
 next-silent m s [] at h = refl
 next-silent m s (i ∷ is) zero h = wanted-silent m s i (head-false (is_print i) (list_any is_print is) h)
 next-silent m s (i ∷ is) (suc at) h = next-silent m s is at (rest-false (is_print i) (list_any is_print is) h)
 
-access-prints : (m : Machine) (q : ℕ) (r : GuestRun) (reach : Reach) (v : Option ℕ) → r.prints ≡ [] → (with_access m q r reach v).prints ≡ []
+access-prints : (m : Machine) (q : ℕ) (r : GuestRun) (reach : Reach) (v : Option ℕ) → r.prints ≡ [] → (with_access m q r reach v).prints
+    ≡ []
 access-prints m q r reach None h = h
 access-prints m q r reach (Some v) h = append-nil r.prints ∙ h
 
-does-prints : (m : Machine) (q : ℕ) (vs : List ℕ) (r : GuestRun) (w : Want) → prints_value w ≡ false → r.prints ≡ [] → (guest_does m q vs r w).prints ≡ []
+does-prints : (m : Machine) (q : ℕ) (vs : List ℕ) (r : GuestRun) (w : Want) → prints_value w ≡ false → r.prints ≡ [] →
+    (guest_does m q vs r w).prints ≡ []
 does-prints m q vs r want.Local k h = append-nil r.prints ∙ h
 does-prints m q vs r (want.Access kind sp a o) k h = access-prints m q r (reach_of m kind sp a o) (value_for kind vs r.used) h
 does-prints m q vs r (want.Switch s) k h = append-nil r.prints ∙ h
@@ -76,11 +81,13 @@ does-prints m q vs r want.Trap k h = h
 more-prints :
     (m : Machine) (q : ℕ) (vs : List ℕ) (r : GuestRun) (o : Outcome) → list_any is_print (program_of m q).code ≡ false → r.prints ≡ []
     → (guest_more m q vs r o).prints ≡ []
-more-prints m q vs r GoesOn silent h = does-prints m q vs r (want_of m q r.state) (next-silent m r.state (program_of m q).code r.state.at silent) h
+more-prints m q vs r GoesOn silent h =
+    does-prints m q vs r (want_of m q r.state) (next-silent m r.state (program_of m q).code r.state.at silent) h
 more-prints m q vs r HasHalted silent h = h
 more-prints m q vs r HasTrapped silent h = h
 
-pub prints-silent : (m : Machine) (q : ℕ) (vs : List ℕ) (t : ℕ) → list_any is_print (program_of m q).code ≡ false → (guest_run m q vs t).prints ≡ []
+pub prints-silent : (m : Machine) (q : ℕ) (vs : List ℕ) (t : ℕ) → list_any is_print (program_of m q).code ≡ false →
+    (guest_run m q vs t).prints ≡ []
 prints-silent m q vs zero silent = refl
 prints-silent m q vs (suc t) silent =
     more-prints m q vs (guest_run m q vs t) (guest_run m q vs t).outcome silent (prints-silent m q vs t silent)

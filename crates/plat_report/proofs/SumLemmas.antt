@@ -5,13 +5,13 @@ use Rattle.std.specs.List.{flat_map}
 use Rattle.std.proofs.lemmas.Bool.Decides.{nat_tests}
 use Rattle.std.proofs.lemmas.List.{get_or_past, get_or-replicate}
 use Rattle.std.proofs.lemmas.List.Sums.{fold-append}
-use Rattle.plat_base.specs.Machine.{Machine, is_machine, limits}
+use Rattle.plat_base.specs.Machine.{Machine, is_machine}
 use Rattle.plat_base.specs.Cache.{cache_after, cache_start}
 use Rattle.plat_base.specs.Pages.{numbers}
 use Rattle.plat_base.specs.Report.{count_lines}
 use Rattle.plat_base.specs.declared.items.Item.{Item}
 use Rattle.plat_flat.specs.FlatSeen.{FlatSeen, IsFlatOf}
-use Rattle.plat_guest.proofs.LimitsLemmas.{holds_at}
+use Rattle.plat_base.proofs.LimitLemmas.{limits_of}
 use Rattle.plat_report.specs.declared.actors.ActorCounts.{ActorCounts}
 use Rattle.plat_report.specs.declared.sums.Sums.{Sums}
 use Rattle.plat_report.specs.declared.totals.Totals.{Totals}
@@ -25,7 +25,8 @@ use Rattle.plat_report.proofs.WritingLemmas.{numbers_same}
 
 -- ---- room
 
-counts_room : (m : Machine) (items : List Item) (i q : ℕ) → i < length items → length items ≤ 2621440 → CountRoom (actor_counts m (take i items) q)
+counts_room : (m : Machine) (items : List Item) (i q : ℕ) → i < length items → length items ≤ 2621440 →
+    CountRoom (actor_counts m (take i items) q)
 counts_room m items i q h few =
     let cache = cache_room m q items i h few in
     record { accesses = access_room q items i h few; hits = cache.0; misses = cache.1 }
@@ -37,11 +38,13 @@ none_room = record {
   misses = omega arith;
 }
 
-pub sums-total_room : (m : Machine) (items : List Item) (i : ℕ) (sums : Sums) → i < length items → length items ≤ 2621440 → ShowsSums m (take i items) sums → TotalRoom sums.totals
+pub sums-total_room : (m : Machine) (items : List Item) (i : ℕ) (sums : Sums) → i < length items → length items ≤ 2621440 →
+    ShowsSums m (take i items) sums → TotalRoom sums.totals
 sums-total_room m items i sums h few shows = rw shows.totals (total_room items i h few)
 
 count_room-at :
-    (m : Machine) (items : List Item) (i : ℕ) (counts : List ActorCounts) → i < length items → length items ≤ 2621440 → ShowsCounts m (take i items) counts
+    (m : Machine) (items : List Item) (i : ℕ) (counts : List ActorCounts) → i < length items → length items ≤ 2621440 →
+    ShowsCounts m (take i items) counts
     → (q : ℕ) → (b : Bool) → nat_lt q 8 ≡ b → CountRoom (slice_index_or counts q no_counts)
 count_room-at m items i counts h few shows q true low = rw (shows.at q (grind (arith, nat_tests, low))) (counts_room m items i q h few)
 count_room-at m items i counts h few shows q false high =
@@ -54,11 +57,13 @@ sums-count_room m items i sums h few shows q = count_room-at m items i sums.acto
 
 -- ---- one more item
 
-actor_counts-push : (m : Machine) (items : List Item) (q : ℕ) (i : Item) → actor_counts m (items ++ i ∷ []) q ≡ with_item m q (actor_counts m items q) i
+actor_counts-push : (m : Machine) (items : List Item) (q : ℕ) (i : Item) → actor_counts m (items ++ i ∷ []) q
+    ≡ with_item m q (actor_counts m items q) i
 actor_counts-push m items q i = rw (access_counts-push q items i, fold-append (cache_after m q) cache_start items (i ∷ [])) refl
 
 ShowsCounts-more :
-    (m : Machine) (items : List Item) (before after : List ActorCounts) (i : Item) → ShowsCounts m items before → length after ≡ length before
+    (m : Machine) (items : List Item) (before after : List ActorCounts) (i : Item) → ShowsCounts m items before →
+    length after ≡ length before
     → ((q : ℕ) → q < length before → slice_index_or after q no_counts ≡ with_item m q (slice_index_or before q no_counts) i)
     → ShowsCounts m (items ++ i ∷ []) after
 ShowsCounts-more m items before after i shows size at = record {
@@ -69,7 +74,8 @@ ShowsCounts-more m items before after i shows size at = record {
 }
 
 pub ShowsSums-more :
-    (m : Machine) (items : List Item) (sums : Sums) (i : Item) (flat : FlatSeen) (totals : Totals) (actors : List ActorCounts) → ShowsSums m items sums
+    (m : Machine) (items : List Item) (sums : Sums) (i : Item) (flat : FlatSeen) (totals : Totals) (actors : List ActorCounts) →
+    ShowsSums m items sums
     → IsFlatOf m (items ++ i ∷ []) flat → totals ≡ with_total sums.totals i → length actors ≡ length sums.actors
     → ((q : ℕ) → q < length sums.actors → slice_index_or actors q no_counts ≡ with_item m q (slice_index_or sums.actors q no_counts) i)
     → ShowsSums m (items ++ i ∷ []) (record { flat = flat; totals = totals; actors = actors })
@@ -82,7 +88,8 @@ ShowsSums-more m items sums i flat totals actors shows memory counted size at = 
 -- ---- no items
 
 pub ShowsSums-start :
-    (m : Machine) (flat : FlatSeen) (totals : Totals) (counts : ActorCounts) → totals ≡ totals_of [] → counts ≡ no_counts → IsFlatOf m [] flat
+    (m : Machine) (flat : FlatSeen) (totals : Totals) (counts : ActorCounts) → totals ≡ totals_of [] → counts ≡ no_counts →
+    IsFlatOf m [] flat
     → ShowsSums m [] (record { flat = flat; totals = totals; actors = replicate 8 counts })
 ShowsSums-start m flat totals counts e f made = rw (e, f) (record {
   flat = made;
@@ -92,15 +99,13 @@ ShowsSums-start m flat totals counts e f made = rw (e, f) (record {
 
 -- ---- the lines of the counts
 
-nodes_few : (m : Machine) → IsTrue (is_machine m) → m.nodes ≤ 8
-nodes_few m h = grind (arith, nat_tests, holds_at (limits m) 0 h)
-
 pub lines_of_counts :
     (m : Machine) (items : List Item) (counts : List ActorCounts) → IsTrue (is_machine m) → ShowsCounts m items counts
     → flat_map (counts_words counts) (numbers m.nodes) ≡ flat_map (count_lines m items) (numbers m.nodes)
 lines_of_counts m items counts within shows =
     numbers_same (counts_words counts) (count_lines m items) m.nodes
-    (λ q low. ap (count_words q) (shows.at q (omega (arith, nodes_few m within))))
+    (λ q low. ap (count_words q) (shows.at q (omega (arith, (limits_of m within).nodes_most))))
 
-pub counts_enough : (m : Machine) (items : List Item) (counts : List ActorCounts) → IsTrue (is_machine m) → ShowsCounts m items counts → m.nodes ≤ length counts
-counts_enough m items counts within shows = omega (arith, shows.size, nodes_few m within)
+pub counts_enough : (m : Machine) (items : List Item) (counts : List ActorCounts) → IsTrue (is_machine m) → ShowsCounts m items counts →
+    m.nodes ≤ length counts
+counts_enough m items counts within shows = omega (arith, shows.size, (limits_of m within).nodes_most)

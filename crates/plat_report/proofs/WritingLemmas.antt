@@ -1,26 +1,19 @@
 -- lines that are written one after another
-use Rattle.std.proofs.Common.{◌≡◌, ℕ, zero, suc, ◌+◌, ◌-◌, ◌<◌, ◌≤◌, Bool, true, false, ◌||◌, List, [], ◌∷◌, ◌++◌, map, Option, Result, Ok, Err, refl, sym, ap, ◌∙◌, arith, inl, inr}
+use Rattle.std.proofs.Common.{◌≡◌, ℕ, zero, suc, ◌+◌, ◌-◌, ◌<◌, ◌≤◌, Bool, true, false, ◌||◌, List, [], ◌∷◌, ◌++◌, map, Option, Result, Ok}
+use Rattle.std.proofs.Common.{Err, refl, sym, ap, ◌∙◌, arith, inl, inr}
 use Rattle.std.specs.List.{flat_map, range_with_len}
 use Rattle.std.proofs.lemmas.List.{append-nil}
 use Rattle.plat_base.specs.Pages.{numbers}
 use Rattle.plat_io.specs.declared.faults.WriteFault.{WriteFault}
 use Rattle.std.proofs.lemmas.Grind.{flat_map-append}
+use Rattle.std.proofs.lemmas.Bool.{or_left, or_right}
 use Rattle.plat_base.specs.Canon.{Words}
 use Rattle.plat_io.specs.declared.sinks.Sink.{Ghosts}
 use Rattle.plat_io.specs.Streams.{added, HasRisen}
 use Rattle.plat_io.specs.Lines.{text, AddsLines}
 use Rattle.plat_io.proofs.LineLemmas.{added_lines, added_no_line, is_part_lines}
-
-or-left : (a b : Bool) → a ≡ true → (a || b) ≡ true
-or-left a b h = rw h refl
-
-or-right : (a b : Bool) → b ≡ true → (a || b) ≡ true
-or-right true b h = refl
-or-right false b h = h
-
-HasRisen-later : (a b c : ℕ) → a ≤ b → HasRisen b c → HasRisen a c
-HasRisen-later a b c h (inl k) = inl (omega arith)
-HasRisen-later a b c h (inr k) = inr k
+use Rattle.plat_base.proofs.ListLemmas.{numbers-more}
+use Rattle.plat_io.proofs.Pieces.{HasRisen-later}
 
 pub adds_none : {K E : Type 0} (sink : Ghosts K) (k : K) → AddsLines {E = E} sink k k (Ok (tt {0})) []
 adds_none sink k = record {
@@ -43,17 +36,18 @@ adds_more sink a b c (Ok u) ls ms h k = record {
 }
 adds_more sink a b c (Err e) ls ms h k = record {
   whole = tt;
-  part = rw is_part_lines (or-right _ _ (rw h.whole at k.part));
+  part = rw is_part_lines (or_right _ _ (rw h.whole at k.part));
   risen = HasRisen-later _ _ _ h.count k.risen;
   count = omega (arith, h.count, k.count);
   size = k.size ∙ h.size;
 }
 
 -- lines that were written in part are a part of these lines and more
-pub adds_part : {K E : Type 0} (sink : Ghosts K) (a b : K) (e fault : E) (ls ms : List Words) → AddsLines sink a b (Err e) ls → AddsLines sink a b (Err fault) (ls ++ ms)
+pub adds_part : {K E : Type 0} (sink : Ghosts K) (a b : K) (e fault : E) (ls ms : List Words) → AddsLines sink a b (Err e) ls →
+    AddsLines sink a b (Err fault) (ls ++ ms)
 adds_part sink a b e fault ls ms h = record {
   whole = tt;
-  part = rw is_part_lines (or-left _ _ h.part);
+  part = rw is_part_lines (or_left _ _ h.part);
   risen = h.risen;
   count = h.count;
   size = h.size;
@@ -72,21 +66,21 @@ range-append a (suc i) k =
 from_zero : (i : ℕ) → 0 + i ≡ i
 from_zero i = omega arith
 
-numbers_more : (i : ℕ) → numbers (i + 1) ≡ numbers i ++ i ∷ []
-numbers_more i = rw from_zero at (range-append 0 i 1)
-
 -- the lines of one number and of those after it
-numbers_cut : (f : ℕ → List Words) (i k n : ℕ) → n ≡ i + suc k → flat_map f (numbers n) ≡ flat_map f (numbers i) ++ (f i ++ flat_map f (range_with_len (i + 1) k))
+numbers_cut : (f : ℕ → List Words) (i k n : ℕ) → n ≡ i + suc k →
+    flat_map f (numbers n) ≡ flat_map f (numbers i) ++ (f i ++ flat_map f (range_with_len (i + 1) k))
 numbers_cut f i k n e =
-    let split : range_with_len 0 (i + suc k) ≡ range_with_len 0 i ++ range_with_len i (suc k) = rw from_zero at (range-append 0 i (suc k)) in
+    let split : range_with_len 0 (i + suc k) ≡ range_with_len 0 i ++ range_with_len i (suc k) =
+    rw from_zero at (range-append 0 i (suc k)) in
     rw e (ap (flat_map f) split ∙ flat_map-append f (numbers i) (range_with_len i (suc k)))
 
 pub listed_more :
     {K : Type 0} (sink : Ghosts K) (f : ℕ → List Words) (i : ℕ) (old now then : K)
-    → AddsLines {E = WriteFault} sink old now (Ok (tt {0})) (flat_map f (numbers i)) → AddsLines {E = WriteFault} sink now then (Ok (tt {0})) (f i)
+    → AddsLines {E = WriteFault} sink old now (Ok (tt {0})) (flat_map f (numbers i)) →
+    AddsLines {E = WriteFault} sink now then (Ok (tt {0})) (f i)
     → AddsLines {E = WriteFault} sink old then (Ok (tt {0})) (flat_map f (numbers (i + 1)))
 listed_more sink f i old now then h k =
-    rw (numbers_more, flat_map-append, append-nil) (adds_more sink old now then (Ok (tt {0})) (flat_map f (numbers i)) (f i) h k)
+    rw (numbers-more, flat_map-append, append-nil) (adds_more sink old now then (Ok (tt {0})) (flat_map f (numbers i)) (f i) h k)
 
 pub listed_failed :
     {K : Type 0} (sink : Ghosts K) (f : ℕ → List Words) (n i : ℕ) (old now then : K) (e fault : WriteFault) → i < n
@@ -99,7 +93,8 @@ listed_failed sink f n i old now then e fault below h k =
 
 -- ---- functions that give the same lines for each of the numbers below some
 
-range-same : {X : Type 0} (f g : ℕ → List X) (a n : ℕ) → ((i : ℕ) → a ≤ i → i < a + n → f i ≡ g i) → flat_map f (range_with_len a n) ≡ flat_map g (range_with_len a n)
+range-same : {X : Type 0} (f g : ℕ → List X) (a n : ℕ) → ((i : ℕ) → a ≤ i → i < a + n → f i ≡ g i) →
+    flat_map f (range_with_len a n) ≡ flat_map g (range_with_len a n)
 range-same f g a zero h = refl
 range-same f g a (suc n) h =
     rw (h a (omega arith) (omega arith), range-same f g (a + 1) n (λ i low high. h i (omega arith) (omega arith))) refl

@@ -1,6 +1,8 @@
 -- the counts of a report, and each of them after one more item
 use Rattle.std.specs.Prelude.{ℕ, ◌+◌, ◌<◌, not, if◌then◌else◌, Bool, List}
-use Rattle.plat_base.specs.Report.{accesses_that, changes_that, applied_that, is_access_that, is_change_that, is_applied_that, is_kind_by, is_local_by, is_remote_by, is_action, is_freeze, is_at_interrupt}
+use Rattle.plat_base.specs.Items.{is_access_that, is_change_that, is_applied_that}
+use Rattle.plat_base.specs.Report.{accesses_that, changes_that, applied_that, is_kind_by}
+use Rattle.plat_base.specs.Report.{is_local_by, is_remote_by, is_action, is_freeze, is_at_interrupt}
 use Rattle.plat_base.specs.declared.items.Kind.TheVariants as kind
 use Rattle.plat_base.specs.declared.items.Action.TheVariants as action
 use Rattle.plat_base.specs.declared.items.Item.{Item}

@@ -14,7 +14,8 @@ AreLegal m items = (i : ℕ) → IfSome (slice_get items i) (λ item. IsTrue (is
 
 -- the lines of the words of a page that are not 0
 abbrev pub flat_page_lines : FlatSeen → ℕ → List Words
-flat_page_lines flat page = flat_map (λ word. word_lines_of page word (slice_index flat.values (place flat.words page word))) (numbers flat.words)
+flat_page_lines flat page = flat_map (λ word. word_lines_of page word (slice_index flat.values (place flat.words page word)))
+    (numbers flat.words)
 
 abbrev pub flat_lines : FlatSeen → List Words
 flat_lines flat = flat_map (flat_page_lines flat) (numbers flat.pages)

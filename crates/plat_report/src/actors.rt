@@ -51,7 +51,8 @@ impl ActorCounts {
 pub(crate) fn take_in(cfg: &Config, counts: &mut [ActorCounts], item: &Item)
     requires { (q : ℕ) → CountRoom (slice_index_or counts.old q no_counts) }
     ensures size { length counts.new ≡ length counts.old }
-    ensures at { (q : ℕ) → q < length counts.old → slice_index_or counts.new q no_counts ≡ with_item (machine cfg.now) q (slice_index_or counts.old q no_counts) item.now }
+    ensures at { (q : ℕ) → q < length counts.old → slice_index_or counts.new q no_counts
+        ≡ with_item (machine cfg.now) q (slice_index_or counts.old q no_counts) item.now }
 {
     let actor = actor_of(item);
     let at = actor as usize;

@@ -7,7 +7,6 @@ ghost use Rattle.plat_report.specs.Caches.{with_access};
 ghost use Rattle.plat_report.specs.Counts.{most};
 
 use plat_base::{Access, Config, Item, Kind, PAGES, Removed};
-use plat_guest::entry_at;
 use std::marker::Model;
 
 /// What a place of the cache keeps: an entry, and whether a write filled it.
@@ -155,7 +154,7 @@ impl CacheCounts {
         ensures { self.new ≡ with_access (machine cfg.now) access.now self.old }
     {
         let vpage = access.addr / cfg.words;
-        let Some(entry) = entry_at(cfg, access.space, vpage) else {
+        let Some(entry) = cfg.entry_at(access.space, vpage) else {
             return;
         };
         let writes = access.kind != Kind::Load;

@@ -1,6 +1,7 @@
 //! How many accesses, changes and applied messages of each kind a history has.
 ghost use Rattle.std.specs.Prelude.{◌≡◌, ℕ, []};
-ghost use Rattle.plat_report.specs.Counts.{access_counts, change_counts, applied_counts, with_access, with_change, with_applied, AccessRoom, ChangeRoom, AppliedRoom};
+ghost use Rattle.plat_report.specs.Counts.{access_counts, change_counts, applied_counts, with_access, with_change, with_applied};
+ghost use Rattle.plat_report.specs.Counts.{AccessRoom, ChangeRoom, AppliedRoom};
 
 use plat_base::{Action, Change, Item, Kind, Moment};
 

@@ -40,7 +40,8 @@ pub(crate) fn write_prints<K: Sink>(
     sink: &mut K,
 ) -> Result<(), WriteFault>
     requires { q < cfg.now.nodes }
-    ensures { AddsLines K.Sink sink.old sink.new result (map (print_line q) (guest_run (machine cfg.now) q (values_of q items.now) turns).prints) }
+    ensures { AddsLines K.Sink sink.old sink.new result
+        (map (print_line q) (guest_run (machine cfg.now) q (values_of q items.now) turns).prints) }
 {
     let program = &cfg.guests.as_slice()[q as usize];
     if !has_print(program.code.as_slice()) {
@@ -58,7 +59,8 @@ fn write_run<K: Sink>(
     sink: &mut K,
 ) -> Result<(), WriteFault>
     requires node { run.guest.node < cfg.now.nodes }
-    ensures { AddsLines K.Sink sink.old sink.new result (map (print_line q) (prints_from (machine cfg.now) run.entry turns)) }
+    ensures { AddsLines K.Sink sink.old sink.new result
+        (map (print_line q) (prints_from (machine cfg.now) run.entry turns)) }
 {
     for made in 0..turns {
         match run.turn(cfg) {

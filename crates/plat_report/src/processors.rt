@@ -56,7 +56,8 @@ fn write_processor_and_prints<K: Sink>(
 ) -> Result<(), WriteFault>
     requires node { q < cfg.now.nodes }
     requires ends { length ends.now ≡ cfg.now.nodes }
-    ensures { AddsLines K.Sink sink.old sink.new result (processor_lines (machine cfg.now) items.now ends.now q) }
+    ensures { AddsLines K.Sink sink.old sink.new result
+        (processor_lines (machine cfg.now) items.now ends.now q) }
 {
     write_processor(ends, q, sink)?;
     write_prints(cfg, q, items, ends[q as usize].turns, sink)
@@ -70,7 +71,8 @@ pub(crate) fn write_processors<K: Sink>(
     sink: &mut K,
 ) -> Result<(), WriteFault>
     requires { length ends.now ≡ cfg.now.nodes }
-    ensures { AddsLines K.Sink sink.old sink.new result (flat_map (processor_lines (machine cfg.now) items.now ends.now) (numbers cfg.now.nodes)) }
+    ensures { AddsLines K.Sink sink.old sink.new result
+        (flat_map (processor_lines (machine cfg.now) items.now ends.now) (numbers cfg.now.nodes)) }
 {
     for q in 0..cfg.nodes {
         write_processor_and_prints(cfg, items, ends, q, sink)?;
@@ -85,7 +87,8 @@ pub(crate) fn write_ends<K: Sink>(
     sink: &mut K,
 ) -> Result<(), WriteFault>
     requires { length ends.now ≡ nodes }
-    ensures { AddsLines K.Sink sink.old sink.new result (flat_map (λ q. processor_line ends.now q ∷ []) (numbers nodes)) }
+    ensures { AddsLines K.Sink sink.old sink.new result
+        (flat_map (λ q. processor_line ends.now q ∷ []) (numbers nodes)) }
 {
     for q in 0..nodes {
         write_processor(ends, q, sink)?;

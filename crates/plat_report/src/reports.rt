@@ -89,7 +89,8 @@ fn write_sums_of<K: Sink>(
     sink: &mut K,
 ) -> Result<(), WriteFault>
     requires { (items : Many AnyItem) × ShowsSums (machine cfg.now) items sums.now }
-    ensures { (items : Many AnyItem) → ShowsSums (machine cfg.now) items sums.now → count ≡ length items → AddsLines K.Sink sink.old sink.new result (sum_lines (machine cfg.now) items) }
+    ensures { (items : Many AnyItem) → ShowsSums (machine cfg.now) items sums.now → count ≡ length items →
+        AddsLines K.Sink sink.old sink.new result (sum_lines (machine cfg.now) items) }
 {
     write_words(cfg.pages, cfg.words, &sums.flat, sink)?;
     write_counts(cfg.nodes, &sums.actors, sink)?;
@@ -125,7 +126,8 @@ fn write_summary<K: Sink>(
 ) -> Result<(), WriteFault>
     requires few { length items.now ≤ MOST_ITEMS }
     requires good { (answer : Answer) × Good (machine cfg.now) answer items.now ends.now }
-    ensures { AddsLines K.Sink sink.old sink.new result (summary_lines n (machine cfg.now) items.now ends.now) }
+    ensures { AddsLines K.Sink sink.old sink.new result
+        (summary_lines n (machine cfg.now) items.now ends.now) }
 {
     write_line(sink, &[Word::Text(b"big"), Word::Number(n)])?;
     write_ends(cfg.nodes, ends, sink)?;

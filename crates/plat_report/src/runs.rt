@@ -42,7 +42,8 @@ fn value_of(q: u32, item: &Item) -> Option<u32>
 
 /// The first value that these items give to processor `q`, and the items after it.
 fn next_value(q: u32, items: &[Item]) -> Option<(u32, &[Item])>
-    ensures { MatchOption result (values_of q items.now ≡ []) (λ found. values_of q items.now ≡ found.0 ∷ values_of q found.1.now) }
+    ensures { MatchOption result (values_of q items.now ≡ []) (λ found. values_of q items.now
+        ≡ found.0 ∷ values_of q found.1.now) }
 {
     for i in 0..items.len() {
         if let Some(value) = value_of(q, &items[i]) {
@@ -95,7 +96,8 @@ impl<'a> Run<'a> {
         requires not_halted { wanted_by (machine cfg.now) self.old.guest ≢ Want.Halted }
         requires not_trapped { wanted_by (machine cfg.now) self.old.guest ≢ Want.Trap }
         ensures turn { result ≡ turn_with (slice_get self.old.values 0) }
-        ensures gone { self.new ≡ gone_with (machine cfg.now) self.old Kind.Load (slice_get self.old.values 0) }
+        ensures gone { self.new ≡ gone_with (machine cfg.now) self.old Kind.Load
+            (slice_get self.old.values 0) }
     {
         match next_value(self.node, self.items) {
             None => Turn::Stops,

@@ -40,7 +40,9 @@ impl Sums {
     pub(crate) fn take_in(&mut self, cfg: &Config, item: &Item)
         requires totals { TotalRoom self.old.totals }
         requires counts { (q : ℕ) → CountRoom (slice_index_or self.old.actors q no_counts) }
-        ensures { (items : Many AnyItem) → ShowsSums (machine cfg.now) items self.old → is_legal_item (machine cfg.now) items item.now ≡ true → ShowsSums (machine cfg.now) (items ++ item.now ∷ []) self.new }
+        ensures { (items : Many AnyItem) → ShowsSums (machine cfg.now) items self.old →
+            is_legal_item (machine cfg.now) items item.now ≡ true →
+            ShowsSums (machine cfg.now) (items ++ item.now ∷ []) self.new }
     {
         self.flat.apply(item);
         self.totals.count(item);

@@ -124,7 +124,8 @@ smallest = record {
 
 abbrev smallest_items : List Item
 smallest_items =
-    change 0 0 0 2 cause.Write action.Fill removed.Nothing (directory state.Empty false []) (directory state.Modified false (frame 0 0 ∷ [])) (granted 0 0 0 right.Write)
+    change 0 0 0 2 cause.Write action.Fill removed.Nothing (directory state.Empty false [])
+    (directory state.Modified false (frame 0 0 ∷ [])) (granted 0 0 0 right.Write)
     ∷ access 0 kind.Store 0 0 0 0 0 5 1 0 0 0
     ∷ access 0 kind.Load 0 0 0 0 5 5 1 0 0 0
     ∷ []
@@ -148,9 +149,12 @@ smallest-report : report_lines smallest smallest_items smallest_ends
     ∷ (codes "processor" ∷ decimal 0 ∷ codes "halted" ∷ decimal 5 ∷ [])
     ∷ (codes "print" ∷ decimal 0 ∷ decimal 5 ∷ [])
     ∷ (codes "word" ∷ decimal 0 ∷ decimal 0 ∷ decimal 5 ∷ [])
-    ∷ (codes "access" ∷ decimal 0 ∷ codes "loads" ∷ decimal 1 ∷ codes "stores" ∷ decimal 1 ∷ codes "adds" ∷ decimal 0 ∷ codes "local" ∷ decimal 2 ∷ codes "remote" ∷ decimal 0 ∷ [])
+    ∷ (codes "access" ∷ decimal 0 ∷ codes "loads" ∷ decimal 1 ∷ codes "stores" ∷ decimal 1 ∷ codes "adds" ∷ decimal 0 ∷ codes "local"
+    ∷ decimal 2 ∷ codes "remote" ∷ decimal 0 ∷ [])
     ∷ (codes "atc" ∷ decimal 0 ∷ codes "hits" ∷ decimal 1 ∷ codes "misses" ∷ decimal 1 ∷ [])
-    ∷ (codes "changes" ∷ codes "fill" ∷ decimal 1 ∷ codes "maplocal" ∷ decimal 0 ∷ codes "mapremote" ∷ decimal 0 ∷ codes "replicate" ∷ decimal 0 ∷ codes "migrate" ∷ decimal 0 ∷ codes "collapse" ∷ decimal 0 ∷ codes "thaw" ∷ decimal 0 ∷ codes "freezes" ∷ decimal 0 ∷ [])
+    ∷ (codes "changes" ∷ codes "fill" ∷ decimal 1 ∷ codes "maplocal" ∷ decimal 0 ∷ codes "mapremote" ∷ decimal 0 ∷ codes "replicate"
+    ∷ decimal 0 ∷ codes "migrate" ∷ decimal 0 ∷ codes "collapse" ∷ decimal 0 ∷ codes "thaw" ∷ decimal 0 ∷ codes "freezes" ∷ decimal 0
+    ∷ [])
     ∷ (codes "applied" ∷ codes "interrupt" ∷ decimal 0 ∷ codes "activation" ∷ decimal 0 ∷ [])
     ∷ (codes "items" ∷ decimal 3 ∷ [])
     ∷ []
@@ -179,9 +183,11 @@ shared_read = record {
 
 abbrev shared_read_items : List Item
 shared_read_items =
-    change 0 0 0 1 cause.Read action.Fill removed.Nothing (directory state.Empty false []) (directory state.Present1 false (frame 0 0 ∷ [])) (granted 0 0 0 right.Read)
+    change 0 0 0 1 cause.Read action.Fill removed.Nothing (directory state.Empty false []) (directory state.Present1 false (frame 0 0 ∷ []))
+    (granted 0 0 0 right.Read)
     ∷ access 0 kind.Load 0 0 0 0 9 9 0 0 0 0
-    ∷ change 1 0 1 3 cause.Read action.MapRemote removed.Nothing (directory state.Present1 false (frame 0 0 ∷ [])) (directory state.Present1 false (frame 0 0 ∷ [])) (granted 0 0 0 right.Read)
+    ∷ change 1 0 1 3 cause.Read action.MapRemote removed.Nothing (directory state.Present1 false (frame 0 0 ∷ []))
+    (directory state.Present1 false (frame 0 0 ∷ [])) (granted 0 0 0 right.Read)
     ∷ access 1 kind.Load 0 0 0 0 9 9 0 0 0 1
     ∷ []
 
@@ -191,7 +197,8 @@ shared_read_ends = ended end.Halted 2 ∷ ended end.Halted 3 ∷ []
 shared_read-is_machine : is_machine shared_read ≡ true
 shared_read-is_machine = refl
 
-shared_read-run : coarse_run shared_read (policy_answer shared_read.policy) ≡ record { history = shared_read_items; ends = shared_read_ends }
+shared_read-run : coarse_run shared_read (policy_answer shared_read.policy)
+    ≡ record { history = shared_read_items; ends = shared_read_ends }
 unfolding coarse_run
 shared_read-run = refl
 
@@ -205,11 +212,15 @@ shared_read-report : report_lines shared_read shared_read_items shared_read_ends
     ∷ (codes "processor" ∷ decimal 1 ∷ codes "halted" ∷ decimal 3 ∷ [])
     ∷ (codes "print" ∷ decimal 1 ∷ decimal 9 ∷ [])
     ∷ (codes "word" ∷ decimal 0 ∷ decimal 0 ∷ decimal 9 ∷ [])
-    ∷ (codes "access" ∷ decimal 0 ∷ codes "loads" ∷ decimal 1 ∷ codes "stores" ∷ decimal 0 ∷ codes "adds" ∷ decimal 0 ∷ codes "local" ∷ decimal 1 ∷ codes "remote" ∷ decimal 0 ∷ [])
+    ∷ (codes "access" ∷ decimal 0 ∷ codes "loads" ∷ decimal 1 ∷ codes "stores" ∷ decimal 0 ∷ codes "adds" ∷ decimal 0 ∷ codes "local"
+    ∷ decimal 1 ∷ codes "remote" ∷ decimal 0 ∷ [])
     ∷ (codes "atc" ∷ decimal 0 ∷ codes "hits" ∷ decimal 0 ∷ codes "misses" ∷ decimal 1 ∷ [])
-    ∷ (codes "access" ∷ decimal 1 ∷ codes "loads" ∷ decimal 1 ∷ codes "stores" ∷ decimal 0 ∷ codes "adds" ∷ decimal 0 ∷ codes "local" ∷ decimal 0 ∷ codes "remote" ∷ decimal 1 ∷ [])
+    ∷ (codes "access" ∷ decimal 1 ∷ codes "loads" ∷ decimal 1 ∷ codes "stores" ∷ decimal 0 ∷ codes "adds" ∷ decimal 0 ∷ codes "local"
+    ∷ decimal 0 ∷ codes "remote" ∷ decimal 1 ∷ [])
     ∷ (codes "atc" ∷ decimal 1 ∷ codes "hits" ∷ decimal 0 ∷ codes "misses" ∷ decimal 1 ∷ [])
-    ∷ (codes "changes" ∷ codes "fill" ∷ decimal 1 ∷ codes "maplocal" ∷ decimal 0 ∷ codes "mapremote" ∷ decimal 1 ∷ codes "replicate" ∷ decimal 0 ∷ codes "migrate" ∷ decimal 0 ∷ codes "collapse" ∷ decimal 0 ∷ codes "thaw" ∷ decimal 0 ∷ codes "freezes" ∷ decimal 0 ∷ [])
+    ∷ (codes "changes" ∷ codes "fill" ∷ decimal 1 ∷ codes "maplocal" ∷ decimal 0 ∷ codes "mapremote" ∷ decimal 1 ∷ codes "replicate"
+    ∷ decimal 0 ∷ codes "migrate" ∷ decimal 0 ∷ codes "collapse" ∷ decimal 0 ∷ codes "thaw" ∷ decimal 0 ∷ codes "freezes" ∷ decimal 0
+    ∷ [])
     ∷ (codes "applied" ∷ codes "interrupt" ∷ decimal 0 ∷ codes "activation" ∷ decimal 0 ∷ [])
     ∷ (codes "items" ∷ decimal 4 ∷ [])
     ∷ []
@@ -238,13 +249,16 @@ shootdown = record {
 
 abbrev shootdown_items : List Item
 shootdown_items =
-    change 0 0 0 2 cause.Write action.Fill removed.Nothing (directory state.Empty false []) (directory state.Modified false (frame 0 0 ∷ [])) (granted 0 0 0 right.Write)
+    change 0 0 0 2 cause.Write action.Fill removed.Nothing (directory state.Empty false [])
+    (directory state.Modified false (frame 0 0 ∷ [])) (granted 0 0 0 right.Write)
     ∷ access 0 kind.Store 0 0 0 0 0 7 1 0 0 0
     ∷ applied 0 0 message.Restrict moment.Interrupt
-    ∷ change 1 0 1 3 cause.Read action.Replicate removed.Writes (directory state.Modified false (frame 0 0 ∷ [])) (directory state.PresentPlus false (frame 0 0 ∷ frame 1 0 ∷ [])) (granted 0 1 0 right.Read)
+    ∷ change 1 0 1 3 cause.Read action.Replicate removed.Writes (directory state.Modified false (frame 0 0 ∷ []))
+    (directory state.PresentPlus false (frame 0 0 ∷ frame 1 0 ∷ [])) (granted 0 1 0 right.Read)
     ∷ access 1 kind.Load 0 0 0 0 7 7 1 1 0 1
     ∷ applied 1 0 message.Invalidate moment.Interrupt
-    ∷ change 0 0 2 5 cause.Write action.Collapse removed.All (directory state.PresentPlus false (frame 0 0 ∷ frame 1 0 ∷ [])) (directory state.Modified false (frame 0 0 ∷ [])) (granted 0 0 0 right.Write)
+    ∷ change 0 0 2 5 cause.Write action.Collapse removed.All (directory state.PresentPlus false (frame 0 0 ∷ frame 1 0 ∷ []))
+    (directory state.Modified false (frame 0 0 ∷ [])) (granted 0 0 0 right.Write)
     ∷ access 0 kind.Store 0 0 0 0 7 8 2 0 0 2
     ∷ []
 
@@ -268,11 +282,15 @@ shootdown-report : report_lines shootdown shootdown_items shootdown_ends
     ∷ (codes "processor" ∷ decimal 1 ∷ codes "halted" ∷ decimal 3 ∷ [])
     ∷ (codes "print" ∷ decimal 1 ∷ decimal 7 ∷ [])
     ∷ (codes "word" ∷ decimal 0 ∷ decimal 0 ∷ decimal 8 ∷ [])
-    ∷ (codes "access" ∷ decimal 0 ∷ codes "loads" ∷ decimal 0 ∷ codes "stores" ∷ decimal 2 ∷ codes "adds" ∷ decimal 0 ∷ codes "local" ∷ decimal 2 ∷ codes "remote" ∷ decimal 0 ∷ [])
+    ∷ (codes "access" ∷ decimal 0 ∷ codes "loads" ∷ decimal 0 ∷ codes "stores" ∷ decimal 2 ∷ codes "adds" ∷ decimal 0 ∷ codes "local"
+    ∷ decimal 2 ∷ codes "remote" ∷ decimal 0 ∷ [])
     ∷ (codes "atc" ∷ decimal 0 ∷ codes "hits" ∷ decimal 0 ∷ codes "misses" ∷ decimal 2 ∷ [])
-    ∷ (codes "access" ∷ decimal 1 ∷ codes "loads" ∷ decimal 1 ∷ codes "stores" ∷ decimal 0 ∷ codes "adds" ∷ decimal 0 ∷ codes "local" ∷ decimal 1 ∷ codes "remote" ∷ decimal 0 ∷ [])
+    ∷ (codes "access" ∷ decimal 1 ∷ codes "loads" ∷ decimal 1 ∷ codes "stores" ∷ decimal 0 ∷ codes "adds" ∷ decimal 0 ∷ codes "local"
+    ∷ decimal 1 ∷ codes "remote" ∷ decimal 0 ∷ [])
     ∷ (codes "atc" ∷ decimal 1 ∷ codes "hits" ∷ decimal 0 ∷ codes "misses" ∷ decimal 1 ∷ [])
-    ∷ (codes "changes" ∷ codes "fill" ∷ decimal 1 ∷ codes "maplocal" ∷ decimal 0 ∷ codes "mapremote" ∷ decimal 0 ∷ codes "replicate" ∷ decimal 1 ∷ codes "migrate" ∷ decimal 0 ∷ codes "collapse" ∷ decimal 1 ∷ codes "thaw" ∷ decimal 0 ∷ codes "freezes" ∷ decimal 0 ∷ [])
+    ∷ (codes "changes" ∷ codes "fill" ∷ decimal 1 ∷ codes "maplocal" ∷ decimal 0 ∷ codes "mapremote" ∷ decimal 0 ∷ codes "replicate"
+    ∷ decimal 1 ∷ codes "migrate" ∷ decimal 0 ∷ codes "collapse" ∷ decimal 1 ∷ codes "thaw" ∷ decimal 0 ∷ codes "freezes" ∷ decimal 0
+    ∷ [])
     ∷ (codes "applied" ∷ codes "interrupt" ∷ decimal 2 ∷ codes "activation" ∷ decimal 0 ∷ [])
     ∷ (codes "items" ∷ decimal 8 ∷ [])
     ∷ []
@@ -301,12 +319,15 @@ frozen = record {
 
 abbrev frozen_items : List Item
 frozen_items =
-    change 0 0 0 1 cause.Write action.Fill removed.Nothing (directory state.Empty false []) (directory state.Modified false (frame 0 0 ∷ [])) (granted 0 0 0 right.Write)
+    change 0 0 0 1 cause.Write action.Fill removed.Nothing (directory state.Empty false [])
+    (directory state.Modified false (frame 0 0 ∷ [])) (granted 0 0 0 right.Write)
     ∷ access 0 kind.Store 0 0 0 0 0 0 1 0 0 0
     ∷ applied 0 0 message.Invalidate moment.Interrupt
-    ∷ change 1 0 1 2 cause.Write action.Migrate removed.All (directory state.Modified false (frame 0 0 ∷ [])) (directory state.Modified false (frame 1 0 ∷ [])) (granted 0 1 0 right.Write)
+    ∷ change 1 0 1 2 cause.Write action.Migrate removed.All (directory state.Modified false (frame 0 0 ∷ []))
+    (directory state.Modified false (frame 1 0 ∷ [])) (granted 0 1 0 right.Write)
     ∷ access 1 kind.Store 0 0 0 0 0 0 2 1 0 1
-    ∷ change 0 0 2 3 cause.Write action.MapRemote removed.Nothing (directory state.Modified false (frame 1 0 ∷ [])) (directory state.Modified true (frame 1 0 ∷ [])) (granted 0 1 0 right.Write)
+    ∷ change 0 0 2 3 cause.Write action.MapRemote removed.Nothing (directory state.Modified false (frame 1 0 ∷ []))
+    (directory state.Modified true (frame 1 0 ∷ [])) (granted 0 1 0 right.Write)
     ∷ access 0 kind.Store 0 0 0 0 0 0 3 1 0 2
     ∷ access 1 kind.Store 0 0 0 0 0 0 4 1 0 1
     ∷ access 0 kind.Store 0 0 0 0 0 0 5 1 0 2
@@ -330,11 +351,15 @@ frozen-report : report_lines frozen frozen_items frozen_ends
     ≡ (codes "platinum" ∷ codes "report" ∷ codes "1" ∷ [])
     ∷ (codes "processor" ∷ decimal 0 ∷ codes "halted" ∷ decimal 4 ∷ [])
     ∷ (codes "processor" ∷ decimal 1 ∷ codes "halted" ∷ decimal 3 ∷ [])
-    ∷ (codes "access" ∷ decimal 0 ∷ codes "loads" ∷ decimal 0 ∷ codes "stores" ∷ decimal 3 ∷ codes "adds" ∷ decimal 0 ∷ codes "local" ∷ decimal 1 ∷ codes "remote" ∷ decimal 2 ∷ [])
+    ∷ (codes "access" ∷ decimal 0 ∷ codes "loads" ∷ decimal 0 ∷ codes "stores" ∷ decimal 3 ∷ codes "adds" ∷ decimal 0 ∷ codes "local"
+    ∷ decimal 1 ∷ codes "remote" ∷ decimal 2 ∷ [])
     ∷ (codes "atc" ∷ decimal 0 ∷ codes "hits" ∷ decimal 1 ∷ codes "misses" ∷ decimal 2 ∷ [])
-    ∷ (codes "access" ∷ decimal 1 ∷ codes "loads" ∷ decimal 0 ∷ codes "stores" ∷ decimal 2 ∷ codes "adds" ∷ decimal 0 ∷ codes "local" ∷ decimal 2 ∷ codes "remote" ∷ decimal 0 ∷ [])
+    ∷ (codes "access" ∷ decimal 1 ∷ codes "loads" ∷ decimal 0 ∷ codes "stores" ∷ decimal 2 ∷ codes "adds" ∷ decimal 0 ∷ codes "local"
+    ∷ decimal 2 ∷ codes "remote" ∷ decimal 0 ∷ [])
     ∷ (codes "atc" ∷ decimal 1 ∷ codes "hits" ∷ decimal 1 ∷ codes "misses" ∷ decimal 1 ∷ [])
-    ∷ (codes "changes" ∷ codes "fill" ∷ decimal 1 ∷ codes "maplocal" ∷ decimal 0 ∷ codes "mapremote" ∷ decimal 1 ∷ codes "replicate" ∷ decimal 0 ∷ codes "migrate" ∷ decimal 1 ∷ codes "collapse" ∷ decimal 0 ∷ codes "thaw" ∷ decimal 0 ∷ codes "freezes" ∷ decimal 1 ∷ [])
+    ∷ (codes "changes" ∷ codes "fill" ∷ decimal 1 ∷ codes "maplocal" ∷ decimal 0 ∷ codes "mapremote" ∷ decimal 1 ∷ codes "replicate"
+    ∷ decimal 0 ∷ codes "migrate" ∷ decimal 1 ∷ codes "collapse" ∷ decimal 0 ∷ codes "thaw" ∷ decimal 0 ∷ codes "freezes" ∷ decimal 1
+    ∷ [])
     ∷ (codes "applied" ∷ codes "interrupt" ∷ decimal 1 ∷ codes "activation" ∷ decimal 0 ∷ [])
     ∷ (codes "items" ∷ decimal 9 ∷ [])
     ∷ []
@@ -356,23 +381,29 @@ thawed = record {
   entries = entry 0 0 0 ∷ [];
   inits = [];
   guests =
-      program 0 (instr.Store 0 0 None ∷ instr.Store 0 0 None ∷ instr.Set 1 1 ∷ instr.Set 2 30 ∷ instr.Add 3 3 1 ∷ instr.Less 3 2 0 ∷ instr.Load 4 0 None ∷ instr.Print 4 ∷ instr.Halt ∷ []) (label (codes "spin") 4 ∷ [])
+      program 0 (instr.Store 0 0 None ∷ instr.Store 0 0 None ∷ instr.Set 1 1 ∷ instr.Set 2 30 ∷ instr.Add 3 3 1 ∷ instr.Less 3 2 0
+      ∷ instr.Load 4 0 None ∷ instr.Print 4 ∷ instr.Halt ∷ []) (label (codes "spin") 4 ∷ [])
       ∷ program 0 (instr.Store 0 0 None ∷ instr.Halt ∷ []) ([])
       ∷ [];
 }
 
 abbrev thawed_items : List Item
 thawed_items =
-    change 0 0 0 1 cause.Write action.Fill removed.Nothing (directory state.Empty false []) (directory state.Modified false (frame 0 0 ∷ [])) (granted 0 0 0 right.Write)
+    change 0 0 0 1 cause.Write action.Fill removed.Nothing (directory state.Empty false [])
+    (directory state.Modified false (frame 0 0 ∷ [])) (granted 0 0 0 right.Write)
     ∷ access 0 kind.Store 0 0 0 0 0 0 1 0 0 0
     ∷ applied 0 0 message.Invalidate moment.Interrupt
-    ∷ change 1 0 1 2 cause.Write action.Migrate removed.All (directory state.Modified false (frame 0 0 ∷ [])) (directory state.Modified false (frame 1 0 ∷ [])) (granted 0 1 0 right.Write)
+    ∷ change 1 0 1 2 cause.Write action.Migrate removed.All (directory state.Modified false (frame 0 0 ∷ []))
+    (directory state.Modified false (frame 1 0 ∷ [])) (granted 0 1 0 right.Write)
     ∷ access 1 kind.Store 0 0 0 0 0 0 2 1 0 1
-    ∷ change 0 0 2 3 cause.Write action.MapRemote removed.Nothing (directory state.Modified false (frame 1 0 ∷ [])) (directory state.Modified true (frame 1 0 ∷ [])) (granted 0 1 0 right.Write)
+    ∷ change 0 0 2 3 cause.Write action.MapRemote removed.Nothing (directory state.Modified false (frame 1 0 ∷ []))
+    (directory state.Modified true (frame 1 0 ∷ [])) (granted 0 1 0 right.Write)
     ∷ access 0 kind.Store 0 0 0 0 0 0 3 1 0 2
     ∷ applied 0 0 message.Invalidate moment.Interrupt
-    ∷ change 2 0 3 64 cause.Thaw action.Thaw removed.All (directory state.Modified true (frame 1 0 ∷ [])) (directory state.Present1 false (frame 1 0 ∷ [])) None
-    ∷ change 0 0 4 67 cause.Read action.Replicate removed.Nothing (directory state.Present1 false (frame 1 0 ∷ [])) (directory state.PresentPlus false (frame 0 0 ∷ frame 1 0 ∷ [])) (granted 0 0 0 right.Read)
+    ∷ change 2 0 3 64 cause.Thaw action.Thaw removed.All (directory state.Modified true (frame 1 0 ∷ []))
+    (directory state.Present1 false (frame 1 0 ∷ [])) None
+    ∷ change 0 0 4 67 cause.Read action.Replicate removed.Nothing (directory state.Present1 false (frame 1 0 ∷ []))
+    (directory state.PresentPlus false (frame 0 0 ∷ frame 1 0 ∷ [])) (granted 0 0 0 right.Read)
     ∷ access 0 kind.Load 0 0 0 0 0 0 3 0 0 4
     ∷ []
 
@@ -395,11 +426,15 @@ thawed-report : report_lines thawed thawed_items thawed_ends
     ∷ (codes "processor" ∷ decimal 0 ∷ codes "halted" ∷ decimal 67 ∷ [])
     ∷ (codes "print" ∷ decimal 0 ∷ decimal 0 ∷ [])
     ∷ (codes "processor" ∷ decimal 1 ∷ codes "halted" ∷ decimal 2 ∷ [])
-    ∷ (codes "access" ∷ decimal 0 ∷ codes "loads" ∷ decimal 1 ∷ codes "stores" ∷ decimal 2 ∷ codes "adds" ∷ decimal 0 ∷ codes "local" ∷ decimal 2 ∷ codes "remote" ∷ decimal 1 ∷ [])
+    ∷ (codes "access" ∷ decimal 0 ∷ codes "loads" ∷ decimal 1 ∷ codes "stores" ∷ decimal 2 ∷ codes "adds" ∷ decimal 0 ∷ codes "local"
+    ∷ decimal 2 ∷ codes "remote" ∷ decimal 1 ∷ [])
     ∷ (codes "atc" ∷ decimal 0 ∷ codes "hits" ∷ decimal 0 ∷ codes "misses" ∷ decimal 3 ∷ [])
-    ∷ (codes "access" ∷ decimal 1 ∷ codes "loads" ∷ decimal 0 ∷ codes "stores" ∷ decimal 1 ∷ codes "adds" ∷ decimal 0 ∷ codes "local" ∷ decimal 1 ∷ codes "remote" ∷ decimal 0 ∷ [])
+    ∷ (codes "access" ∷ decimal 1 ∷ codes "loads" ∷ decimal 0 ∷ codes "stores" ∷ decimal 1 ∷ codes "adds" ∷ decimal 0 ∷ codes "local"
+    ∷ decimal 1 ∷ codes "remote" ∷ decimal 0 ∷ [])
     ∷ (codes "atc" ∷ decimal 1 ∷ codes "hits" ∷ decimal 0 ∷ codes "misses" ∷ decimal 1 ∷ [])
-    ∷ (codes "changes" ∷ codes "fill" ∷ decimal 1 ∷ codes "maplocal" ∷ decimal 0 ∷ codes "mapremote" ∷ decimal 1 ∷ codes "replicate" ∷ decimal 1 ∷ codes "migrate" ∷ decimal 1 ∷ codes "collapse" ∷ decimal 0 ∷ codes "thaw" ∷ decimal 1 ∷ codes "freezes" ∷ decimal 1 ∷ [])
+    ∷ (codes "changes" ∷ codes "fill" ∷ decimal 1 ∷ codes "maplocal" ∷ decimal 0 ∷ codes "mapremote" ∷ decimal 1 ∷ codes "replicate"
+    ∷ decimal 1 ∷ codes "migrate" ∷ decimal 1 ∷ codes "collapse" ∷ decimal 0 ∷ codes "thaw" ∷ decimal 1 ∷ codes "freezes" ∷ decimal 1
+    ∷ [])
     ∷ (codes "applied" ∷ codes "interrupt" ∷ decimal 2 ∷ codes "activation" ∷ decimal 0 ∷ [])
     ∷ (codes "items" ∷ decimal 11 ∷ [])
     ∷ []
@@ -428,15 +463,18 @@ inactive = record {
 
 abbrev inactive_items : List Item
 inactive_items =
-    change 1 0 0 1 cause.Read action.Fill removed.Nothing (directory state.Empty false []) (directory state.Present1 false (frame 1 0 ∷ [])) (granted 0 1 0 right.Read)
+    change 1 0 0 1 cause.Read action.Fill removed.Nothing (directory state.Empty false []) (directory state.Present1 false (frame 1 0 ∷ []))
+    (granted 0 1 0 right.Read)
     ∷ access 1 kind.Load 0 0 0 0 0 0 0 1 0 0
     ∷ switch 1 1
-    ∷ change 0 0 1 4 cause.Write action.Migrate removed.All (directory state.Present1 false (frame 1 0 ∷ [])) (directory state.Modified false (frame 0 0 ∷ [])) (granted 0 0 0 right.Write)
+    ∷ change 0 0 1 4 cause.Write action.Migrate removed.All (directory state.Present1 false (frame 1 0 ∷ []))
+    (directory state.Modified false (frame 0 0 ∷ [])) (granted 0 0 0 right.Write)
     ∷ access 0 kind.Store 0 0 0 0 0 4 1 0 0 1
     ∷ switch 1 0
     ∷ applied 1 0 message.Invalidate moment.Activation
     ∷ applied 0 0 message.Restrict moment.Interrupt
-    ∷ change 1 0 2 6 cause.Read action.Replicate removed.Writes (directory state.Modified false (frame 0 0 ∷ [])) (directory state.PresentPlus false (frame 0 0 ∷ frame 1 0 ∷ [])) (granted 0 1 0 right.Read)
+    ∷ change 1 0 2 6 cause.Read action.Replicate removed.Writes (directory state.Modified false (frame 0 0 ∷ []))
+    (directory state.PresentPlus false (frame 0 0 ∷ frame 1 0 ∷ [])) (granted 0 1 0 right.Read)
     ∷ access 1 kind.Load 0 0 0 0 4 4 1 1 0 2
     ∷ []
 
@@ -460,11 +498,15 @@ inactive-report : report_lines inactive inactive_items inactive_ends
     ∷ (codes "processor" ∷ decimal 1 ∷ codes "halted" ∷ decimal 6 ∷ [])
     ∷ (codes "print" ∷ decimal 1 ∷ decimal 4 ∷ [])
     ∷ (codes "word" ∷ decimal 0 ∷ decimal 0 ∷ decimal 4 ∷ [])
-    ∷ (codes "access" ∷ decimal 0 ∷ codes "loads" ∷ decimal 0 ∷ codes "stores" ∷ decimal 1 ∷ codes "adds" ∷ decimal 0 ∷ codes "local" ∷ decimal 1 ∷ codes "remote" ∷ decimal 0 ∷ [])
+    ∷ (codes "access" ∷ decimal 0 ∷ codes "loads" ∷ decimal 0 ∷ codes "stores" ∷ decimal 1 ∷ codes "adds" ∷ decimal 0 ∷ codes "local"
+    ∷ decimal 1 ∷ codes "remote" ∷ decimal 0 ∷ [])
     ∷ (codes "atc" ∷ decimal 0 ∷ codes "hits" ∷ decimal 0 ∷ codes "misses" ∷ decimal 1 ∷ [])
-    ∷ (codes "access" ∷ decimal 1 ∷ codes "loads" ∷ decimal 2 ∷ codes "stores" ∷ decimal 0 ∷ codes "adds" ∷ decimal 0 ∷ codes "local" ∷ decimal 2 ∷ codes "remote" ∷ decimal 0 ∷ [])
+    ∷ (codes "access" ∷ decimal 1 ∷ codes "loads" ∷ decimal 2 ∷ codes "stores" ∷ decimal 0 ∷ codes "adds" ∷ decimal 0 ∷ codes "local"
+    ∷ decimal 2 ∷ codes "remote" ∷ decimal 0 ∷ [])
     ∷ (codes "atc" ∷ decimal 1 ∷ codes "hits" ∷ decimal 0 ∷ codes "misses" ∷ decimal 2 ∷ [])
-    ∷ (codes "changes" ∷ codes "fill" ∷ decimal 1 ∷ codes "maplocal" ∷ decimal 0 ∷ codes "mapremote" ∷ decimal 0 ∷ codes "replicate" ∷ decimal 1 ∷ codes "migrate" ∷ decimal 1 ∷ codes "collapse" ∷ decimal 0 ∷ codes "thaw" ∷ decimal 0 ∷ codes "freezes" ∷ decimal 0 ∷ [])
+    ∷ (codes "changes" ∷ codes "fill" ∷ decimal 1 ∷ codes "maplocal" ∷ decimal 0 ∷ codes "mapremote" ∷ decimal 0 ∷ codes "replicate"
+    ∷ decimal 1 ∷ codes "migrate" ∷ decimal 1 ∷ codes "collapse" ∷ decimal 0 ∷ codes "thaw" ∷ decimal 0 ∷ codes "freezes" ∷ decimal 0
+    ∷ [])
     ∷ (codes "applied" ∷ codes "interrupt" ∷ decimal 1 ∷ codes "activation" ∷ decimal 1 ∷ [])
     ∷ (codes "items" ∷ decimal 10 ∷ [])
     ∷ []
@@ -497,13 +539,16 @@ smallest-canon = refl
 -- an access at another address
 abbrev other_address_items : List Item
 other_address_items =
-    change 0 0 0 2 cause.Write action.Fill removed.Nothing (directory state.Empty false []) (directory state.Modified false (frame 0 0 ∷ [])) (granted 0 0 0 right.Write)
+    change 0 0 0 2 cause.Write action.Fill removed.Nothing (directory state.Empty false [])
+    (directory state.Modified false (frame 0 0 ∷ [])) (granted 0 0 0 right.Write)
     ∷ access 0 kind.Store 0 0 0 0 0 7 1 0 0 0
     ∷ applied 0 0 message.Restrict moment.Interrupt
-    ∷ change 1 0 1 3 cause.Read action.Replicate removed.Writes (directory state.Modified false (frame 0 0 ∷ [])) (directory state.PresentPlus false (frame 0 0 ∷ frame 1 0 ∷ [])) (granted 0 1 0 right.Read)
+    ∷ change 1 0 1 3 cause.Read action.Replicate removed.Writes (directory state.Modified false (frame 0 0 ∷ []))
+    (directory state.PresentPlus false (frame 0 0 ∷ frame 1 0 ∷ [])) (granted 0 1 0 right.Read)
     ∷ access 1 kind.Load 0 1 0 0 7 7 1 1 0 1
     ∷ applied 1 0 message.Invalidate moment.Interrupt
-    ∷ change 0 0 2 5 cause.Write action.Collapse removed.All (directory state.PresentPlus false (frame 0 0 ∷ frame 1 0 ∷ [])) (directory state.Modified false (frame 0 0 ∷ [])) (granted 0 0 0 right.Write)
+    ∷ change 0 0 2 5 cause.Write action.Collapse removed.All (directory state.PresentPlus false (frame 0 0 ∷ frame 1 0 ∷ []))
+    (directory state.Modified false (frame 0 0 ∷ [])) (granted 0 0 0 right.Write)
     ∷ access 0 kind.Store 0 0 0 0 7 8 2 0 0 2
     ∷ []
 
@@ -514,13 +559,16 @@ other_address-judged = refl
 -- a load of another value
 abbrev other_value_items : List Item
 other_value_items =
-    change 0 0 0 2 cause.Write action.Fill removed.Nothing (directory state.Empty false []) (directory state.Modified false (frame 0 0 ∷ [])) (granted 0 0 0 right.Write)
+    change 0 0 0 2 cause.Write action.Fill removed.Nothing (directory state.Empty false [])
+    (directory state.Modified false (frame 0 0 ∷ [])) (granted 0 0 0 right.Write)
     ∷ access 0 kind.Store 0 0 0 0 0 7 1 0 0 0
     ∷ applied 0 0 message.Restrict moment.Interrupt
-    ∷ change 1 0 1 3 cause.Read action.Replicate removed.Writes (directory state.Modified false (frame 0 0 ∷ [])) (directory state.PresentPlus false (frame 0 0 ∷ frame 1 0 ∷ [])) (granted 0 1 0 right.Read)
+    ∷ change 1 0 1 3 cause.Read action.Replicate removed.Writes (directory state.Modified false (frame 0 0 ∷ []))
+    (directory state.PresentPlus false (frame 0 0 ∷ frame 1 0 ∷ [])) (granted 0 1 0 right.Read)
     ∷ access 1 kind.Load 0 0 0 0 6 6 1 1 0 1
     ∷ applied 1 0 message.Invalidate moment.Interrupt
-    ∷ change 0 0 2 5 cause.Write action.Collapse removed.All (directory state.PresentPlus false (frame 0 0 ∷ frame 1 0 ∷ [])) (directory state.Modified false (frame 0 0 ∷ [])) (granted 0 0 0 right.Write)
+    ∷ change 0 0 2 5 cause.Write action.Collapse removed.All (directory state.PresentPlus false (frame 0 0 ∷ frame 1 0 ∷ []))
+    (directory state.Modified false (frame 0 0 ∷ [])) (granted 0 0 0 right.Write)
     ∷ access 0 kind.Store 0 0 0 0 7 8 2 0 0 2
     ∷ []
 
@@ -531,13 +579,16 @@ other_value-judged = refl
 -- a write of an older version
 abbrev old_version_items : List Item
 old_version_items =
-    change 0 0 0 2 cause.Write action.Fill removed.Nothing (directory state.Empty false []) (directory state.Modified false (frame 0 0 ∷ [])) (granted 0 0 0 right.Write)
+    change 0 0 0 2 cause.Write action.Fill removed.Nothing (directory state.Empty false [])
+    (directory state.Modified false (frame 0 0 ∷ [])) (granted 0 0 0 right.Write)
     ∷ access 0 kind.Store 0 0 0 0 0 7 1 0 0 0
     ∷ applied 0 0 message.Restrict moment.Interrupt
-    ∷ change 1 0 1 3 cause.Read action.Replicate removed.Writes (directory state.Modified false (frame 0 0 ∷ [])) (directory state.PresentPlus false (frame 0 0 ∷ frame 1 0 ∷ [])) (granted 0 1 0 right.Read)
+    ∷ change 1 0 1 3 cause.Read action.Replicate removed.Writes (directory state.Modified false (frame 0 0 ∷ []))
+    (directory state.PresentPlus false (frame 0 0 ∷ frame 1 0 ∷ [])) (granted 0 1 0 right.Read)
     ∷ access 1 kind.Load 0 0 0 0 7 7 1 1 0 1
     ∷ applied 1 0 message.Invalidate moment.Interrupt
-    ∷ change 0 0 2 5 cause.Write action.Collapse removed.All (directory state.PresentPlus false (frame 0 0 ∷ frame 1 0 ∷ [])) (directory state.Modified false (frame 0 0 ∷ [])) (granted 0 0 0 right.Write)
+    ∷ change 0 0 2 5 cause.Write action.Collapse removed.All (directory state.PresentPlus false (frame 0 0 ∷ frame 1 0 ∷ []))
+    (directory state.Modified false (frame 0 0 ∷ [])) (granted 0 0 0 right.Write)
     ∷ access 0 kind.Store 0 0 0 0 7 8 1 0 0 2
     ∷ []
 
@@ -548,12 +599,15 @@ old_version-judged = refl
 -- an access before the messages that must follow it
 abbrev moved_access_items : List Item
 moved_access_items =
-    change 0 0 0 2 cause.Write action.Fill removed.Nothing (directory state.Empty false []) (directory state.Modified false (frame 0 0 ∷ [])) (granted 0 0 0 right.Write)
+    change 0 0 0 2 cause.Write action.Fill removed.Nothing (directory state.Empty false [])
+    (directory state.Modified false (frame 0 0 ∷ [])) (granted 0 0 0 right.Write)
     ∷ access 0 kind.Store 0 0 0 0 0 7 1 0 0 0
     ∷ applied 0 0 message.Restrict moment.Interrupt
-    ∷ change 1 0 1 3 cause.Read action.Replicate removed.Writes (directory state.Modified false (frame 0 0 ∷ [])) (directory state.PresentPlus false (frame 0 0 ∷ frame 1 0 ∷ [])) (granted 0 1 0 right.Read)
+    ∷ change 1 0 1 3 cause.Read action.Replicate removed.Writes (directory state.Modified false (frame 0 0 ∷ []))
+    (directory state.PresentPlus false (frame 0 0 ∷ frame 1 0 ∷ [])) (granted 0 1 0 right.Read)
     ∷ applied 1 0 message.Invalidate moment.Interrupt
-    ∷ change 0 0 2 5 cause.Write action.Collapse removed.All (directory state.PresentPlus false (frame 0 0 ∷ frame 1 0 ∷ [])) (directory state.Modified false (frame 0 0 ∷ [])) (granted 0 0 0 right.Write)
+    ∷ change 0 0 2 5 cause.Write action.Collapse removed.All (directory state.PresentPlus false (frame 0 0 ∷ frame 1 0 ∷ []))
+    (directory state.Modified false (frame 0 0 ∷ [])) (granted 0 0 0 right.Write)
     ∷ access 1 kind.Load 0 0 0 0 7 7 1 1 0 1
     ∷ access 0 kind.Store 0 0 0 0 7 8 2 0 0 2
     ∷ []
@@ -565,13 +619,16 @@ moved_access-judged = refl
 -- a change that does not follow the last one
 abbrev wrong_before_items : List Item
 wrong_before_items =
-    change 0 0 0 2 cause.Write action.Fill removed.Nothing (directory state.Empty false []) (directory state.Modified false (frame 0 0 ∷ [])) (granted 0 0 0 right.Write)
+    change 0 0 0 2 cause.Write action.Fill removed.Nothing (directory state.Empty false [])
+    (directory state.Modified false (frame 0 0 ∷ [])) (granted 0 0 0 right.Write)
     ∷ access 0 kind.Store 0 0 0 0 0 7 1 0 0 0
     ∷ applied 0 0 message.Restrict moment.Interrupt
-    ∷ change 1 0 1 3 cause.Read action.Replicate removed.Writes (directory state.PresentPlus false (frame 0 0 ∷ frame 1 0 ∷ [])) (directory state.PresentPlus false (frame 0 0 ∷ frame 1 0 ∷ [])) (granted 0 1 0 right.Read)
+    ∷ change 1 0 1 3 cause.Read action.Replicate removed.Writes (directory state.PresentPlus false (frame 0 0 ∷ frame 1 0 ∷ []))
+    (directory state.PresentPlus false (frame 0 0 ∷ frame 1 0 ∷ [])) (granted 0 1 0 right.Read)
     ∷ access 1 kind.Load 0 0 0 0 7 7 1 1 0 1
     ∷ applied 1 0 message.Invalidate moment.Interrupt
-    ∷ change 0 0 2 5 cause.Write action.Collapse removed.All (directory state.PresentPlus false (frame 0 0 ∷ frame 1 0 ∷ [])) (directory state.Modified false (frame 0 0 ∷ [])) (granted 0 0 0 right.Write)
+    ∷ change 0 0 2 5 cause.Write action.Collapse removed.All (directory state.PresentPlus false (frame 0 0 ∷ frame 1 0 ∷ []))
+    (directory state.Modified false (frame 0 0 ∷ [])) (granted 0 0 0 right.Write)
     ∷ access 0 kind.Store 0 0 0 0 7 8 2 0 0 2
     ∷ []
 
@@ -582,14 +639,17 @@ wrong_before-judged = refl
 -- a message given twice
 abbrev message_twice_items : List Item
 message_twice_items =
-    change 0 0 0 2 cause.Write action.Fill removed.Nothing (directory state.Empty false []) (directory state.Modified false (frame 0 0 ∷ [])) (granted 0 0 0 right.Write)
+    change 0 0 0 2 cause.Write action.Fill removed.Nothing (directory state.Empty false [])
+    (directory state.Modified false (frame 0 0 ∷ [])) (granted 0 0 0 right.Write)
     ∷ access 0 kind.Store 0 0 0 0 0 7 1 0 0 0
     ∷ applied 0 0 message.Restrict moment.Interrupt
-    ∷ change 1 0 1 3 cause.Read action.Replicate removed.Writes (directory state.Modified false (frame 0 0 ∷ [])) (directory state.PresentPlus false (frame 0 0 ∷ frame 1 0 ∷ [])) (granted 0 1 0 right.Read)
+    ∷ change 1 0 1 3 cause.Read action.Replicate removed.Writes (directory state.Modified false (frame 0 0 ∷ []))
+    (directory state.PresentPlus false (frame 0 0 ∷ frame 1 0 ∷ [])) (granted 0 1 0 right.Read)
     ∷ access 1 kind.Load 0 0 0 0 7 7 1 1 0 1
     ∷ applied 1 0 message.Invalidate moment.Interrupt
     ∷ applied 1 0 message.Invalidate moment.Interrupt
-    ∷ change 0 0 2 5 cause.Write action.Collapse removed.All (directory state.PresentPlus false (frame 0 0 ∷ frame 1 0 ∷ [])) (directory state.Modified false (frame 0 0 ∷ [])) (granted 0 0 0 right.Write)
+    ∷ change 0 0 2 5 cause.Write action.Collapse removed.All (directory state.PresentPlus false (frame 0 0 ∷ frame 1 0 ∷ []))
+    (directory state.Modified false (frame 0 0 ∷ [])) (granted 0 0 0 right.Write)
     ∷ access 0 kind.Store 0 0 0 0 7 8 2 0 0 2
     ∷ []
 
@@ -599,7 +659,8 @@ message_twice-judged = refl
 
 -- an end with fewer turns
 
-short_end-judged : first_bad shootdown (policy_answer shootdown.policy) shootdown_items (ended end.Halted 5 ∷ ended end.Halted 2 ∷ []) ≡ bad 8 rule.Ends
+short_end-judged : first_bad shootdown (policy_answer shootdown.policy) shootdown_items (ended end.Halted 5 ∷ ended end.Halted 2 ∷ [])
+    ≡ bad 8 rule.Ends
 unfolding first_bad
 short_end-judged = refl
 
@@ -619,7 +680,8 @@ shootdown-words = (refl, refl, refl)
 
 -- a migration copies the word before the page is written
 inactive-words :
-    (copy_value shared_read (take 4 inactive_items) 0 0 (frame 0 0) ≡ 9) × (copy_value shared_read (take 5 inactive_items) 0 0 (frame 0 0) ≡ 4)
+    (copy_value shared_read (take 4 inactive_items) 0 0 (frame 0 0) ≡ 9)
+    × (copy_value shared_read (take 5 inactive_items) 0 0 (frame 0 0) ≡ 4)
     × (copy_value shared_read (take 5 inactive_items) 0 0 (frame 1 0) ≡ 9)
 inactive-words = (refl, refl, refl)
 
@@ -632,10 +694,13 @@ three_nodes = record smallest {
 
 abbrev differing_items : List Item
 differing_items =
-    change 0 0 0 1 cause.Read action.Fill removed.Nothing (directory state.Empty false []) (directory state.Present1 false (frame 0 0 ∷ [])) (granted 0 0 0 right.Read)
-    ∷ change 1 0 1 2 cause.Read action.Replicate removed.Nothing (directory state.Present1 false (frame 0 0 ∷ [])) (directory state.PresentPlus false (frame 0 0 ∷ frame 1 0 ∷ [])) (granted 0 1 0 right.Read)
+    change 0 0 0 1 cause.Read action.Fill removed.Nothing (directory state.Empty false []) (directory state.Present1 false (frame 0 0 ∷ []))
+    (granted 0 0 0 right.Read)
+    ∷ change 1 0 1 2 cause.Read action.Replicate removed.Nothing (directory state.Present1 false (frame 0 0 ∷ []))
+    (directory state.PresentPlus false (frame 0 0 ∷ frame 1 0 ∷ [])) (granted 0 1 0 right.Read)
     ∷ access 1 kind.Store 0 0 0 0 0 5 1 1 0 1
-    ∷ change 2 0 2 3 cause.Read action.Replicate removed.Nothing (directory state.PresentPlus false (frame 0 0 ∷ frame 1 0 ∷ [])) (directory state.PresentPlus false (frame 0 0 ∷ frame 1 0 ∷ frame 2 0 ∷ [])) (granted 0 2 0 right.Read)
+    ∷ change 2 0 2 3 cause.Read action.Replicate removed.Nothing (directory state.PresentPlus false (frame 0 0 ∷ frame 1 0 ∷ []))
+    (directory state.PresentPlus false (frame 0 0 ∷ frame 1 0 ∷ frame 2 0 ∷ [])) (granted 0 2 0 right.Read)
     ∷ []
 
 differing-words :
@@ -646,8 +711,10 @@ differing-words = (refl, refl, refl)
 -- a frame has one word at a time, whichever page it is a copy of
 abbrev shared_frame_items : List Item
 shared_frame_items =
-    change 0 0 0 1 cause.Read action.Fill removed.Nothing (directory state.Empty false []) (directory state.Present1 false (frame 0 0 ∷ [])) (granted 0 0 0 right.Read)
-    ∷ change 0 1 0 2 cause.Read action.Fill removed.Nothing (directory state.Empty false []) (directory state.Present1 false (frame 0 0 ∷ [])) (granted 0 0 0 right.Read)
+    change 0 0 0 1 cause.Read action.Fill removed.Nothing (directory state.Empty false []) (directory state.Present1 false (frame 0 0 ∷ []))
+    (granted 0 0 0 right.Read)
+    ∷ change 0 1 0 2 cause.Read action.Fill removed.Nothing (directory state.Empty false [])
+    (directory state.Present1 false (frame 0 0 ∷ [])) (granted 0 0 0 right.Read)
     ∷ []
 
 shared_frame-words :

@@ -1,18 +1,22 @@
--- the machines of the code are those of the definitions; the one whose guests add is within its limits, and its text is short
-use Rattle.std.proofs.Common.{◌≡◌, ℕ, List, [], ◌∷◌, refl, sym, subst}
+-- the machines whose guests add and share are within their limits, and their texts are short; and one idle guest more
+use Rattle.std.proofs.Common.{◌≡◌, ℕ, ◌+◌, false, List, [], ◌∷◌, ◌++◌, replicate, refl, sym, subst}
+use Rattle.std.proofs.lemmas.List.{replicate_more}
 use Rattle.std.specs.Prelude.{IsTrue}
 use Rattle.std.specs.Fmt.{digits}
 use Rattle.plat_base.specs.Canon.{is_short, canon_text}
-use Rattle.plat_base.specs.Machine.{Program, is_machine, machine_of, programs_seen}
-use Rattle.plat_base.specs.Roomy.{Roomy}
-use Rattle.plat_base.specs.declared.configs.Distance.{Distance}
-use Rattle.plat_base.specs.declared.configs.Entry.{Entry}
-use Rattle.plat_base.specs.declared.configs.Init.{Init}
-use Rattle.plat_base.specs.declared.configs.Plan.TheVariants.{Robin}
+use Rattle.plat_base.specs.Machine.{Program, is_machine, program_seen, programs_seen}
 use Rattle.plat_base.specs.declared.guests.GuestText.{GuestText}
+use Rattle.plat_base.specs.Rules.{has_daemon}
+use Rattle.plat_base.specs.declared.configs.Entry.{Entry}
 use Rattle.plat_base.specs.declared.policies.PolicyKind.{PolicyKind}
 use Rattle.plat_base.specs.declared.policies.PolicyKind.TheVariants as policy
-use Rattle.plat_samples.specs.Samples.{adding, adding_guest, two_nodes}
+use Rattle.plat_base.specs.declared.policies.PolicyKind.TheVariants.{Place, Replicate, Platinum}
+use Rattle.plat_samples.specs.Samples.{adding, adding_guest, entry, idle, reading, sharing, small, two_nodes, writing}
+use Rattle.plat_samples.specs.declared.machines.Sizes.{Sizes}
+use Rattle.plat_base.proofs.LimitLemmas.{programs_seen-push}
+
+abbrev pub sharing_sizes : Sizes
+sharing_sizes = record { nodes = 2; frames = 4; pages = 1; budget = 100 }
 
 adding-limits : IsTrue (is_machine adding)
 adding-limits = refl
@@ -33,10 +37,31 @@ adding_short p q e f =
     subst (λ (x : Program). IsTrue (is_short (two_nodes policy.Place 1000 0 (x ∷ q ∷ [])))) (sym e)
     (subst (λ (x : Program). IsTrue (is_short (two_nodes policy.Place 1000 0 (adding_guest ∷ x ∷ [])))) (sym f) adding-short)
 
-pub two_nodes-seen :
-    (policy : PolicyKind) (budget start : ℕ) (programs : List Program) (distances : Roomy Distance) (entries : Roomy Entry)
-    (inits : Roomy Init) (guests : Roomy GuestText) → distances.items ≡ [] →
-    entries.items ≡ record { space = 0; vpage = 0; page = 0 } ∷ [] → inits.items ≡ record { page = 0; word = 0; value = start } ∷ []
-    → programs_seen guests.items ≡ programs →
-    machine_of 2 4 4 1 policy budget Robin distances entries inits guests ≡ two_nodes policy budget start programs
-two_nodes-seen policy budget start programs distances entries inits guests d e i g = simp (d, e, i, g)
+sharing-limits : (policy : PolicyKind) → has_daemon policy ≡ false → IsTrue (is_machine (sharing policy))
+sharing-limits Place h = refl
+sharing-limits Replicate h = refl
+sharing-limits (Platinum t1 t2) h = absurd cc
+
+sharing-short : (policy : PolicyKind) → has_daemon policy ≡ false → IsTrue (is_short (sharing policy))
+unfolding is_short canon_text digits
+sharing-short Place h = refl
+sharing-short Replicate h = refl
+sharing-short (Platinum t1 t2) h = absurd cc
+
+pub sharing_limits : (policy : PolicyKind) (entries : List Entry) (guests : List Program) → has_daemon policy ≡ false →
+    entries ≡ entry 0 0 ∷ [] → guests ≡ writing ∷ reading ∷ [] → IsTrue (is_machine (small sharing_sizes policy entries [] guests))
+sharing_limits policy entries guests h e f =
+    subst (λ (x : List Entry). IsTrue (is_machine (small sharing_sizes policy x [] guests))) (sym e)
+    (subst (λ (x : List Program). IsTrue (is_machine (small sharing_sizes policy (entry 0 0 ∷ []) [] x))) (sym f)
+    (sharing-limits policy h))
+
+pub sharing_short : (policy : PolicyKind) (entries : List Entry) (guests : List Program) → has_daemon policy ≡ false →
+    entries ≡ entry 0 0 ∷ [] → guests ≡ writing ∷ reading ∷ [] → IsTrue (is_short (small sharing_sizes policy entries [] guests))
+sharing_short policy entries guests h e f =
+    subst (λ (x : List Entry). IsTrue (is_short (small sharing_sizes policy x [] guests))) (sym e)
+    (subst (λ (x : List Program). IsTrue (is_short (small sharing_sizes policy (entry 0 0 ∷ []) [] x))) (sym f)
+    (sharing-short policy h))
+
+pub idle-push : (gs : List GuestText) (g : GuestText) (n : ℕ) → programs_seen gs ≡ replicate n idle → program_seen g ≡ idle →
+    programs_seen (gs ++ g ∷ []) ≡ replicate (n + 1) idle
+idle-push gs g n e f = rw (programs_seen-push gs g, e, f) (replicate_more n idle)

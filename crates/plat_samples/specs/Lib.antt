@@ -1,1 +1,3 @@
+pub mod AtMost
 pub mod Samples
+pub mod Shootdown

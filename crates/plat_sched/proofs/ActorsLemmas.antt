@@ -1,5 +1,6 @@
 -- the live actors of a word: how many, the lowest above another, and whether one is among them
-use Rattle.std.proofs.Common.{◌≡◌, ◌≢◌, ℕ, ◌+◌, ◌-◌, ◌*◌, ◌/◌, ◌%◌, ◌^◌, ◌<◌, ◌≤◌, zero, suc, Bool, true, false, ◌&&◌, [], length, find, filter, nat_lt, Option, Some, None, refl, ap, sym, ◌∙◌, subst, arith, bit_or}
+use Rattle.std.proofs.Common.{◌≡◌, ◌≢◌, ℕ, ◌+◌, ◌-◌, ◌*◌, ◌/◌, ◌%◌, ◌^◌, ◌<◌, ◌≤◌, zero, suc, Bool, true, false, ◌&&◌, [], length, find}
+use Rattle.std.proofs.Common.{filter, nat_lt, Option, Some, None, refl, ap, sym, ◌∙◌, subst, arith, bit_or}
 use Rattle.std.specs.Prelude.{◌==◌, nat_le}
 use Rattle.std.specs.List.{list_any, range_with_len}
 use Rattle.std.specs.Int.{w32}
@@ -18,11 +19,13 @@ most_actors_is = refl
 
 -- ---- tests that agree on a range
 
-pub filter_agrees : (p q : ℕ → Bool) (a n : ℕ) → ((k : ℕ) → a ≤ k → k < a + n → p k ≡ q k) → filter p (range_with_len a n) ≡ filter q (range_with_len a n)
+pub filter_agrees : (p q : ℕ → Bool) (a n : ℕ) → ((k : ℕ) → a ≤ k → k < a + n → p k ≡ q k) →
+    filter p (range_with_len a n) ≡ filter q (range_with_len a n)
 filter_agrees p q a zero h = refl
 filter_agrees p q a (suc n) h = grind (arith, h a, filter_agrees p q (a + 1) n (λ k l m. h k (omega arith) (omega arith)))
 
-pub find_agrees : (p q : ℕ → Bool) (a n : ℕ) → ((k : ℕ) → a ≤ k → k < a + n → p k ≡ q k) → find p (range_with_len a n) ≡ find q (range_with_len a n)
+pub find_agrees : (p q : ℕ → Bool) (a n : ℕ) → ((k : ℕ) → a ≤ k → k < a + n → p k ≡ q k) →
+    find p (range_with_len a n) ≡ find q (range_with_len a n)
 find_agrees p q a zero h = refl
 find_agrees p q a (suc n) h = grind (arith, h a, find_agrees p q (a + 1) n (λ k l m. h k (omega arith) (omega arith)))
 
@@ -33,7 +36,8 @@ find_past p a zero k h = refl
 find_past p a (suc n) k h = grind (arith, nat_tests, find_past p (a + 1) n k)
 
 -- the range begins d below the first number that counts
-find_from : (p : ℕ → Bool) (d a k m n : ℕ) → a + d ≡ k + 1 → n ≡ d + m → find (nat_lt k) (filter p (range_with_len a n)) ≡ find p (range_with_len (k + 1) m)
+find_from : (p : ℕ → Bool) (d a k m n : ℕ) → a + d ≡ k + 1 → n ≡ d + m → find (nat_lt k) (filter p (range_with_len a n))
+    ≡ find p (range_with_len (k + 1) m)
 find_from p zero a k m n e f =
     let b : a ≡ k + 1 = omega arith in
     let g : n ≡ m = omega arith in
@@ -81,10 +85,6 @@ some_actor live h k =
 
 -- ---- what the searches over the bits find
 
-pub option_map-same : {X : Type 0} (o : Option X) → option_map (λ x. x) o ≡ o
-option_map-same None = refl
-option_map-same (Some x) = refl
-
 pub filter_is : (live : ℕ) → filter (is_actor live) (range_with_len 0 most_actors) ≡ actors_of live
 unfolding actors_of
 filter_is live =
@@ -103,7 +103,8 @@ filter_empty q a zero h = refl
 filter_empty q a (suc n) h =
     grind (arith, h a, filter_empty q (a + 1) n (λ k l m. h k (omega arith) (omega arith)))
 
-filter_cut : (p q : ℕ → Bool) (n a m k : ℕ) → k ≡ n + m → ((j : ℕ) → a ≤ j → j < a + n → q j ≡ p j) → ((j : ℕ) → a + n ≤ j → j < a + k → q j ≡ false) → filter q (range_with_len a k) ≡ filter p (range_with_len a n)
+filter_cut : (p q : ℕ → Bool) (n a m k : ℕ) → k ≡ n + m → ((j : ℕ) → a ≤ j → j < a + n → q j ≡ p j) →
+    ((j : ℕ) → a + n ≤ j → j < a + k → q j ≡ false) → filter q (range_with_len a k) ≡ filter p (range_with_len a n)
 filter_cut p q zero a m k e f g = filter_empty q a k (λ j l r. g j (omega arith) r)
 filter_cut p q (suc n) a m k e f g =
     let s : k ≡ suc (n + m) = omega arith in
@@ -111,10 +112,12 @@ filter_cut p q (suc n) a m k e f g =
     let above : (j : ℕ) → a + 1 + n ≤ j → j < a + 1 + (n + m) → q j ≡ false = λ j l r. g j (omega arith) (omega arith) in
     rw s (grind (arith, f a, filter_cut p q n (a + 1) m (n + m) refl below above))
 
-pub actors_are : (p : ℕ → Bool) (n live : ℕ) → n ≤ 32 → ((a : ℕ) → a < n → is_set live a ≡ p a) → ((a : ℕ) → n ≤ a → a < 32 → is_set live a ≡ false) → actors_of live ≡ filter p (numbers n)
+pub actors_are : (p : ℕ → Bool) (n live : ℕ) → n ≤ 32 → ((a : ℕ) → a < n → is_set live a ≡ p a) →
+    ((a : ℕ) → n ≤ a → a < 32 → is_set live a ≡ false) → actors_of live ≡ filter p (numbers n)
 unfolding actors_of
 actors_are p n live l f g =
-    filter_cut p (is_set live) n 0 (32 - n) most_actors (omega (arith, most_actors_is)) (λ a _ r. f a (omega arith)) (λ a r t. g a (omega arith) (omega (arith, most_actors_is)))
+    filter_cut p (is_set live) n 0 (32 - n) most_actors (omega (arith, most_actors_is)) (λ a _ r. f a (omega arith))
+    (λ a r t. g a (omega arith) (omega (arith, most_actors_is)))
 
 pub is_set-zero : (a : ℕ) → is_set 0 a ≡ false
 is_set-zero a = ap (λ (n : ℕ). n == 1) (bit_at-zero a)

@@ -10,10 +10,11 @@ use Rattle.plat_sched.specs.ScheduleSeen.{ScheduleSeen, choice, actor_chosen, af
 use Rattle.plat_sched.specs.Sources.{schedule_seen, with_place}
 use Rattle.plat_sched.specs.declared.sources.Source.{Source}
 use Rattle.plat_sched.proofs.ActorsLemmas.{some_actor, any_is}
-use Rattle.plat_sched.proofs.ChoiceLemmas.{no_actors, choose_nobody, choose_somebody, choose_live}
+use Rattle.plat_sched.proofs.ChoiceLemmas.{no_actors, choose_somebody, choose_live}
+use Rattle.plat_base.proofs.ChoiceLemmas.{choose-nobody}
 
 pub choice_of_nobody : (s : ScheduleSeen) (live : ℕ) → live ≡ 0 → choice s live ≡ None
-choice_of_nobody s live e = rw (e, no_actors) (choose_nobody s.turns s.chooser)
+choice_of_nobody s live e = rw (e, no_actors) (choose-nobody s.turns s.chooser)
 
 -- somebody is chosen among the live
 pub somebody : (s : ScheduleSeen) (live : ℕ) → live < 2 ^ 32 → live ≢ 0 → actor_chosen (choice s live) ≢ None
@@ -32,13 +33,15 @@ actor_is : (o : Option (ℕ × Chooser)) (after : ℕ → Chooser) (r : Option �
 actor_is o after None e = sym (ap actor_chosen e)
 actor_is o after (Some a) e = sym (ap actor_chosen e)
 
-after_is : (s : ScheduleSeen) (o : Option (ℕ × Chooser)) (source : Source) (r : Option ℕ) → o ≡ with_place source r → r ≢ None → (schedule_seen source r).turns ≡ s.turns → schedule_seen source r ≡ after_choice s o
+after_is : (s : ScheduleSeen) (o : Option (ℕ × Chooser)) (source : Source) (r : Option ℕ) → o ≡ with_place source r → r ≢ None →
+    (schedule_seen source r).turns ≡ s.turns → schedule_seen source r ≡ after_choice s o
 after_is s o source None e k t = absurd (k refl)
 after_is s o source (Some a) e k t =
     ap (λ (turns : Turns). let seen : ScheduleSeen = record { turns = turns; chooser = (schedule_seen source (Some a)).chooser } in seen) t
     ∙ ap (after_choice s) (sym e)
 
-pub next_is : (s : ScheduleSeen) (live : ℕ) (source : Source) (r : Option ℕ) → live < 2 ^ 32 → live ≢ 0 → choice s live ≡ with_place source r → (schedule_seen source r).turns ≡ s.turns → IsNext s live source r
+pub next_is : (s : ScheduleSeen) (live : ℕ) (source : Source) (r : Option ℕ) → live < 2 ^ 32 → live ≢ 0 →
+    choice s live ≡ with_place source r → (schedule_seen source r).turns ≡ s.turns → IsNext s live source r
 next_is s live source r h k e t =
     let actor : r ≡ actor_chosen (choice s live) = actor_is _ (λ a. (schedule_seen source (Some a)).chooser) r e in
     let some : r ≢ None = λ n. somebody s live h k (sym actor ∙ n) in

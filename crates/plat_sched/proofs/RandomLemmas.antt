@@ -17,7 +17,8 @@ rotate_by x r k h =
     rw (shl_mod x r k, or_shifted_r (x % 2 ^ r) k (x / 2 ^ r) low) (omega arith)
 
 -- the same at other spellings of its numbers
-rotate_at : (x r k a b m : ℕ) → a ≡ r → b ≡ k → m ≡ 2 ^ (r + k) → x < m → bit_or (x / 2 ^ a) ((x * 2 ^ b) % m) ≡ x / 2 ^ r + (x % 2 ^ r) * 2 ^ k
+rotate_at : (x r k a b m : ℕ) → a ≡ r → b ≡ k → m ≡ 2 ^ (r + k) → x < m → bit_or (x / 2 ^ a) ((x * 2 ^ b) % m)
+    ≡ x / 2 ^ r + (x % 2 ^ r) * 2 ^ k
 rotate_at x r k a b m e f g h = rw (e, f, g) (rotate_by x r k (rw (← g) h))
 
 rotate_is : (x r : ℕ) → x < 2 ^ 32 → r < 32 → rotate_right w32 x r ≡ schedule.rotate_right x r
@@ -27,7 +28,8 @@ rotate_is x zero h l =
     rw (a, b, or_self x) (omega arith)
 rotate_is x (suc r) h l =
     let whole : 32 ≡ suc r + (32 - suc r) = omega arith in
-    rotate_at x (suc r) (32 - suc r) (suc r % 32) ((32 - suc r % 32) % 32) 4294967296 (omega arith) (omega arith) (ap (λ (t : ℕ). 2 ^ t) whole) h
+    rotate_at x (suc r) (32 - suc r) (suc r % 32) ((32 - suc r % 32) % 32) 4294967296 (omega arith) (omega arith)
+    (ap (λ (t : ℕ). 2 ^ t) whole) h
 
 pub word_is : (s : ℕ) → s < 2 ^ 64 → output_xsh_rr s ≡ schedule.random_word s
 word_is s h = rotate_is _ _ (mod_below _ (2 ^ 32) (omega arith)) (shr_below s 5 59 h)

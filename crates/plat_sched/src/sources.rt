@@ -86,7 +86,8 @@ fn robin(last: Option<u32>, live: u32) -> Option<u32>
 fn random(words: &mut Lcg64Xsh32, live: u32) -> Option<u32>
     requires live { live ≢ 0 }
     requires state { words.old.state < 2 ^ 64 }
-    ensures chosen { result ≡ slice_get (actors_of live) (random_word words.old.state % length (actors_of live)) }
+    ensures chosen { result ≡ slice_get (actors_of live)
+        (random_word words.old.state % length (actors_of live)) }
     ensures state { words.new.state ≡ (words.old.state * multiplier + words.old.increment) % two_64 }
     ensures stream { words.new.increment ≡ words.old.increment }
 {

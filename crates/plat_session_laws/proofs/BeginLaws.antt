@@ -1,5 +1,6 @@
 -- the lock of a directory that was found clear keeps the invariant: a session begins
-use Rattle.std.specs.Prelude.{◌≡◌, ◌≢◌, ℕ, ◌<◌, ◌==◌, ◌&&◌, not, if◌then◌else◌, Bool, true, false, List, bit_or, Option, Some, None, is_some, IsTrue}
+use Rattle.std.specs.Prelude.{◌≡◌, ◌≢◌, ℕ, ◌<◌, ◌==◌, ◌&&◌, not, if◌then◌else◌, Bool, true, false, List, bit_or, Option, Some, None}
+use Rattle.std.specs.Prelude.{is_some, IsTrue}
 use Rattle.std.proofs.Common.{refl, ap, sym, ◌∙◌, inl, inr, arith, subst}
 use Rattle.std.specs.Option.{option_map_or}
 use Rattle.std.proofs.lemmas.Bool.{true≢false, eq-eqb}
@@ -8,18 +9,14 @@ use Rattle.plat_base.specs.Verdicts.{Answer}
 use Rattle.plat_base.specs.Machine.{Machine}
 use Rattle.plat_base.specs.Pages.{page_of}
 use Rattle.plat_base.specs.Copies.{same_frame}
-use Rattle.plat_base.specs.Accesses.{cause_of}
 use Rattle.plat_base.specs.GuestRun.{Reach}
-use Rattle.plat_base.specs.Held.{held, has_right, serves}
+use Rattle.plat_base.specs.Held.{held, has_right}
 use Rattle.plat_base.specs.Directories.{dir_of, seq_of, last_of}
 use Rattle.plat_base.specs.declared.frames.Frame.{Frame}
 use Rattle.plat_base.specs.declared.items.Cause.{Cause}
 use Rattle.plat_base.specs.declared.items.Item.{Item}
-use Rattle.plat_base.specs.declared.items.Kind.{Kind}
 use Rattle.plat_base.specs.declared.items.Kind.TheVariants as kind
-use Rattle.plat_base.specs.declared.items.Right.{Right}
 use Rattle.plat_base.specs.declared.items.Right.TheVariants as right
-use Rattle.plat_base.specs.declared.items.Translation.{Translation}
 use Rattle.plat_base.specs.declared.words.WordName.TheVariants as word
 use Rattle.plat_laws.specs.Guests.{IsWithinLimits}
 use Rattle.plat_laws.proofs.Limits.{nodes-most, frames-most}
@@ -32,7 +29,7 @@ use Rattle.plat_events.specs.Privates.{Locking, InSession, Private, actor_count}
 use Rattle.plat_events.specs.Events.{at, reach_now, entry_of}
 use Rattle.plat_events.specs.Standings.{stamp_of, course_of, is_quiet, is_stamped, word_copied, hand_of, saw_no_frame}
 use Rattle.plat_events.specs.Kept.{Running, session_on, session_of, word_at, private_of}
-use Rattle.plat_events.specs.Views.{no_session, session_view, session_viewed, place_view, page_view, translation_of, view_of, held_view, view}
+use Rattle.plat_events.specs.Views.{session_view, place_view, page_view, translation_of, view_of, held_view}
 use Rattle.plat_events.specs.Runs.{Fine, event}
 use Rattle.plat_events.specs.Shown.{kind_for, stamp_after, stamp_by, Shows}
 use Rattle.plat_local_laws.specs.Faults.{IsFaultNow}
@@ -46,9 +43,11 @@ use Rattle.plat_frame_laws.specs.Phased.{running}
 use Rattle.plat_frame_laws.specs.StartPhases.{StartPhase}
 use Rattle.plat_session_laws.specs.OnePage.{ActorGoes, SessionGoes, ViewOk}
 use Rattle.plat_session_laws.proofs.SessionGoesLaws.{shows-going}
-use Rattle.plat_session_laws.proofs.UnpostedLaws.{unposted-none, start-stamping, start-returning, unposted-start, turned-views}
+use Rattle.plat_frame_laws.proofs.StartPhaseLaws.{start-returning, start-stamping}
+use Rattle.plat_session_laws.proofs.UnpostedLaws.{unposted-none, unposted-start, given-way}
 use Rattle.plat_session_laws.proofs.SteadyLaws.{steady-goes, steady-session, steady-locking}
 use Rattle.plat_session_laws.proofs.LockLaws.{begun, begins, locking, lock-named, lock-found}
+use Rattle.plat_local_laws.proofs.RuleLaws.{kind_for-right}
 
 -- the stamp that a session has not stored is the history's
 pub unstamped-stamp :
@@ -59,17 +58,6 @@ unstamped-stamp m answer items page r h =
     (λ b. if b then option_map_or (stamp_after m answer items page r) (course_of r.session.phase) 0
     else stamp_word (last_of items page) (seq_of items page))
     h
-
--- the right that a fault asks for is that of its access
-pub kind_for-cause : (k : Kind) (t : Option Translation) → has_right (kind_for (cause_of k)) t ≡ has_right k t
-kind_for-cause kind.Load t = refl
-kind_for-cause kind.Store t = refl
-kind_for-cause kind.Add None = refl
-kind_for-cause kind.Add (Some t) = by t.grant.right
-  where
-    by : (r : Right) → serves kind.Store r ≡ serves kind.Add r
-    by right.Read = refl
-    by right.Write = refl
 
 pub no_stamp : Stamp
 no_stamp = record { last = None; seq = 0 }
@@ -144,7 +132,8 @@ module _ (m : Machine) (answer : Answer) (s : Fine) (a : ℕ) (limits : IsWithin
       by None h = refl
       by (Some y) h = absurd cc
 
-  start : StartPhase m answer a p.now (begun m answer s a limits shows within fault stands) no_stamp None (if first then Returning else Stamping)
+  start : StartPhase m answer a p.now (begun m answer s a limits shows within fault stands) no_stamp None
+      (if first then Returning else Stamping)
   start = first-start m answer a p.now (begun m answer s a limits shows within fault stands) first
 
   written : (dir_read (bit_or n 8) ≡ dir_read n) × (is_locked (bit_or n 8) ≡ true) × IsTrue (is_word m (word.Dir page) (bit_or n 8))
@@ -165,7 +154,7 @@ module _ (m : Machine) (answer : Answer) (s : Fine) (a : ℕ) (limits : IsWithin
           let below = (IsReach-wanted m a p.guest reach.kind reach.space reach.addr reach.operand ok.wants).below in
           let same = held-right m answer s a (entry_of m (reach_now m a p)) shows node below (ap session_of stands) reach.kind in
           ap (λ (c : Cause). has_right (kind_for c) (held m s.history a e)) ok.cause
-          ∙ (kind_for-cause reach.kind (held m s.history a e)
+          ∙ (kind_for-right reach.kind (held m s.history a e)
           ∙ (ap (λ k. has_right reach.kind (held m s.history a k)) (sym entry) ∙ (same ∙ locks.lacks node)))
         where
           some_same : (i k : ℕ) → Some i ≡ Some k → i ≡ k
@@ -191,7 +180,8 @@ module _ (m : Machine) (answer : Answer) (s : Fine) (a : ℕ) (limits : IsWithin
         ∙ (shows.stamp_is_history page inside
         ∙ (ap (stamp_by m answer s.history page) nobody ∙ sym (unstamped-stamp m answer s.history page r start.stamped)));
     dir_read_is = λ y e. subst (λ (z : Running). z.session.dir ≡ dir_of s.history page) (own y e) (shows.dir_is_history page inside);
-    stamp_read_is = λ y st e read. absurd (first-stamp first st (subst (λ (z : Running). stamp_of z.session.phase ≡ Some st) (sym (own y e)) read));
+    stamp_read_is = λ y st e read.
+        absurd (first-stamp first st (subst (λ (z : Running). stamp_of z.session.phase ≡ Some st) (sym (own y e)) read));
     finds = λ enough y e empty. subst (λ (z : Running). saw_no_frame m z.actor z.session.phase ≡ false) (own y e)
         (first-saw m a (not (dir_read n).frozen));
     hand = λ y f e hand.
@@ -215,33 +205,17 @@ module _ (m : Machine) (answer : Answer) (s : Fine) (a : ℕ) (limits : IsWithin
       (view_of q (translation_of m s q e) (word_at m s (word.Cmap e)) (session_view m answer q e (translation_of m s q e) (Some r))
       (place_view m (private_of m s q) e) (page_view m s (page_of m e) (translation_of m s q e)))
       (held_view m s q e)
-  views q e node below on =
-      turned-views q (translation_of m s q e) (word_at m s (word.Cmap e)) no_session
-      (session_viewed m answer q e (translation_of m s q e) r) (place_view m (private_of m s q) e)
-      (page_view m s (page_of m e) (translation_of m s q e)) (held_view m s q e) unposted-none
-      (unposted-start m answer a p.now (begun m answer s a limits shows within fault stands) no_stamp None (if first then Returning else Stamping)
-      start q e (translation_of m s q e))
-      (subst (λ v. ViewOk v (held_view m s q e)) seen
-      (record {
-        ok = shows.views q e node below;
-        waits = shows.invalidates_stay q e node below;
-        held = shows.held_is_pmap q e node below;
-      }))
-    where
-      seen :
-          view m answer s q e
-          ≡ view_of q (translation_of m s q e) (word_at m s (word.Cmap e)) no_session
-          (place_view m (private_of m s q) e) (page_view m s (page_of m e) (translation_of m s q e))
-      seen =
-          ap
-          (λ o. view_of q (translation_of m s q e) (word_at m s (word.Cmap e)) (session_view m answer q e (translation_of m s q e) o)
-          (place_view m (private_of m s q) e) (page_view m s (page_of m e) (translation_of m s q e)))
-          (ap (session_on s.privates) on ∙ nobody)
+  views q e node below there =
+      given-way m answer s q e None (Some r) shows node below (ap (session_on s.privates) there ∙ nobody)
+      unposted-none
+      (unposted-start m answer a p.now (begun m answer s a limits shows within fault stands) no_stamp None
+      (if first then Returning else Stamping) start q e (translation_of m s q e))
 
   goes : ActorGoes m a p after None page
   goes =
       steady-goes m a p after None page (steady-locking m p fault stands)
-      (steady-session m after (begun m answer s a limits shows within fault stands) refl) refl refl refl refl (λ i e. absurd cc) (λ enough e. absurd cc)
+      (steady-session m after (begun m answer s a limits shows within fault stands) refl) refl refl refl refl (λ i e. absurd cc)
+      (λ enough e. absurd cc)
       (λ y e. let none : session_of p.place ≡ None = ap session_of stands in absurd cc) (λ y e. is-on y e)
     where
       is-on : (y : Session) → Some (begun m answer s a limits shows within fault stands) ≡ Some y → y.fault.page ≡ page
@@ -250,5 +224,6 @@ module _ (m : Machine) (answer : Answer) (s : Fine) (a : ℕ) (limits : IsWithin
   pub keeps_lock_found_clear : Shows m answer (event m answer s a)
   keeps_lock_found_clear =
       shows-going m answer s t a (word.Dir page) (bit_or n 8) after page limits shows within changes named (eq-eqb page page refl) goes
-      (λ y on. let none : session_on s.privates page ≡ None = nobody in absurd cc) refl (λ e h. absurd cc) None (Some r) nobody refl owes inside views
+      (λ y on. let none : session_on s.privates page ≡ None = nobody in absurd cc) refl (λ e h. absurd cc) None (Some r) nobody refl owes
+      inside views
       written.2 (begins m answer s a limits shows within fault stands clear).1

@@ -13,9 +13,10 @@ use Rattle.plat_base.specs.declared.items.Item.{Item}
 use Rattle.plat_base.specs.declared.items.Item.TheVariants as item
 use Rattle.plat_base.specs.declared.items.Removed.{Removed}
 use Rattle.plat_base.specs.declared.statuses.Rule.TheVariants as rule
-use Rattle.plat_laws.proofs.ItemLaws.{seq_of-access, seq_of-applied, seq_of-change, seq_of-switch, later-access, later-applied, later-change, later-switch}
-use Rattle.plat_laws.proofs.AccessLaws.{both_here, kept_rule}
+use Rattle.plat_laws.proofs.ItemLaws.{seq_of-access, seq_of-applied, seq_of-change, seq_of-switch, later-access, later-applied}
+use Rattle.plat_laws.proofs.ItemLaws.{later-change, later-switch}
 use Rattle.plat_laws.proofs.ChangeLaws.{good_change}
+use Rattle.plat_base.proofs.RuleLemmas.{unless-none, bad_at-none}
 
 abbrev IsFresh : List Item → Type 0
 IsFresh items = (test : Removed → Bool) (page n : ℕ) → seq_of items page ≤ n → later test items page n ≡ false
@@ -27,13 +28,15 @@ change-fresh before true seq n number test is old above =
     let none = old (omega arith) in let less : nat_lt n number ≡ false = grind (arith, nat_tests) in rw (none, less) refl
 change-fresh before false seq n number test is old above = rw (old above) refl
 
-fresh-item : (m : Machine) (answer : Answer) (xs : List Item) (i : Item) → bad_rule m answer xs i ≡ None → IsFresh xs → IsFresh (xs ++ i ∷ [])
+fresh-item : (m : Machine) (answer : Answer) (xs : List Item) (i : Item) → bad_rule m answer xs i ≡ None → IsFresh xs →
+    IsFresh (xs ++ i ∷ [])
 fresh-item m answer xs (item.Access a) ok fresh test page n above =
     later-access test xs a page n ∙ fresh test page n (let same = seq_of-access xs a page in omega (arith, same, above))
 fresh-item m answer xs (item.Change c) ok fresh test page n above = later-change test xs c page n ∙ by (c.page == page) refl
   where
     number : (c.page == page) ≡ true → c.seq ≡ seq_of xs page
-    number is = let good = good_change m answer xs c (kept_rule (is_chained m answer xs c) rule.Chain ok) in good.seq ∙ ap (seq_of xs) (eqb-true c.page page is)
+    number is = let good = good_change m answer xs c (unless-none (is_chained m answer xs c) rule.Chain ok) in
+        good.seq ∙ ap (seq_of xs) (eqb-true c.page page is)
 
     bound : (if c.page == page then seq_of xs page + 1 else seq_of xs page) ≤ n
     bound = subst (λ k. k ≤ n) (seq_of-change xs c page) above
@@ -58,7 +61,7 @@ fresh-items :
     IsFresh (xs ++ is)
 fresh-items m answer xs k [] ok fresh = rw append-nil fresh
 fresh-items m answer xs k (i ∷ is) ok fresh =
-    let both = both_here k (bad_rule m answer xs i) (bad_after m answer (xs ++ i ∷ []) (k + 1) is) ok in
+    let both = bad_at-none k (bad_rule m answer xs i) (bad_after m answer (xs ++ i ∷ []) (k + 1) is) ok in
     subst IsFresh (append_assoc xs (i ∷ []) is)
     (fresh-items m answer (xs ++ i ∷ []) (k + 1) is both.1 (fresh-item m answer xs i both.0 fresh))
 

@@ -1,5 +1,6 @@
 -- the grant of a processor's reference keeps the invariant
-use Rattle.std.specs.Prelude.{◌≡◌, ◌≢◌, ℕ, ◌<◌, ◌==◌, ◌&&◌, ◌||◌, ◌^◌, if◌then◌else◌, Bool, true, false, [], length, bit_or, Option, Some, None, is_some, IsTrue, take}
+use Rattle.std.specs.Prelude.{◌≡◌, ◌≢◌, ℕ, ◌<◌, ◌==◌, ◌&&◌, ◌||◌, ◌^◌, if◌then◌else◌, Bool, true, false, [], length, bit_or, Option, Some}
+use Rattle.std.specs.Prelude.{None, is_some, IsTrue, take}
 use Rattle.std.proofs.Common.{refl, ap, sym, ◌∙◌, ◌⊎◌, inl, inr, arith, subst}
 use Rattle.std.specs.Option.{option_map_or}
 use Rattle.std.specs.Prelude.{unwrap_or}
@@ -13,6 +14,8 @@ use Rattle.plat_base.specs.Pages.{page_of, space_of, entries_of_page}
 use Rattle.plat_base.specs.Directories.{dir_of, seq_of}
 use Rattle.plat_base.specs.Messages.{removes_some}
 use Rattle.std.specs.List.{list_any}
+use Rattle.std.proofs.Math.Bool.{and-false, or-true}
+use Rattle.plat_laws.proofs.ItemLaws.{or-false}
 use Rattle.plat_base.specs.declared.items.Kind.TheVariants.{Store}
 use Rattle.plat_base.specs.declared.items.Removed.{Removed}
 use Rattle.plat_base.specs.declared.items.Removed.TheVariants.{Nothing}
@@ -28,12 +31,15 @@ use Rattle.plat_laws.proofs.GuestLaws.{IsReach, IsReach-wanted}
 use Rattle.plat_words.proofs.Masks.{has_reference-granted, has_invalidate-granted, has_restrict-granted, mask_of, is_mask-of, granted-mask}
 use Rattle.plat_events.specs.Words.{has_reference, has_invalidate, has_restrict, reference_place}
 use Rattle.plat_events.specs.Places.{entry_count, is_name, is_word}
-use Rattle.plat_events.specs.Sessions.{Course, Phase, Session, Granting, Unlocking, decision_of, entry_faulted, phase_after, translation_made, with_phase}
+use Rattle.plat_events.specs.Sessions.{Course, Phase, Session, Granting, Unlocking, decision_of, entry_faulted, phase_after}
+use Rattle.plat_events.specs.Sessions.{translation_made, with_phase}
 use Rattle.plat_events.specs.Privates.{InSession, Private, actor_count, translation_at}
 use Rattle.plat_events.specs.Events.{at, grant_own, entry_of, reach_now, reach_wanted}
 use Rattle.plat_events.specs.Standings.{course_of, is_stamped, posts_of, unlocking_of}
 use Rattle.plat_events.specs.Kept.{Running, session_on, session_of, has_left, word_at, private_of}
-use Rattle.plat_events.specs.Views.{Own, Another, EntryOk, HeldOk, InvalidateStays, SessionView, PlaceView, PageView, session_view, session_viewed, place_view, page_view, translation_of, same_translation, view_of, agrees, held_view, view}
+use Rattle.plat_events.specs.Views.{Own, Another, EntryOk, HeldOk, InvalidateStays, SessionView, PlaceView, PageView, session_view}
+use Rattle.plat_events.specs.Views.{session_viewed, place_view, page_view, translation_of, same_translation, view_of, agrees, held_view}
+use Rattle.plat_events.specs.Views.{view}
 use Rattle.plat_events.specs.Runs.{Fine, event, ends_of}
 use Rattle.plat_events.specs.Shown.{stamp_by, IsReachedAlone, Shows}
 use Rattle.plat_local_laws.specs.Faults.{IsFaultNow}
@@ -42,7 +48,6 @@ use Rattle.plat_local_laws.proofs.UseLaws.{entry_now-space}
 use Rattle.plat_fine_laws.specs.Changes.{Changes}
 use Rattle.plat_fine_laws.proofs.WordLaws.{word_at-new, word_at-other}
 use Rattle.plat_fine_laws.proofs.PrivateLaws.{private_of-new, private_of-other}
-use Rattle.plat_fine_laws.proofs.GoodLaws.{good-items}
 use Rattle.plat_fine_laws.proofs.ViewFactLaws.{view_facts}
 use Rattle.plat_fine_laws.proofs.SessionFootprints.{granting-changes}
 use Rattle.plat_frame_laws.specs.Phased.{Continues, running}
@@ -57,16 +62,10 @@ use Rattle.plat_session_laws.proofs.SteadyLaws.{steady-goes, steady-session}
 use Rattle.plat_session_laws.proofs.LastLaws.{last-granting, last-unlocking, last-continues, last-goes, stamped-by}
 use Rattle.plat_session_laws.proofs.FreshLaws.{later-fresh}
 use Rattle.plat_session_laws.proofs.GrantViewLaws.{same_translation-itself, view-bits, granted-view, with_grant, with_none}
+use Rattle.plat_laws.proofs.HistoryLaws.{good-items}
 
-and_no : (b : Bool) → (b && false) ≡ false
-and_no true = refl
-and_no false = refl
-
-or_yes : (b : Bool) → (b || true) ≡ true
-or_yes true = refl
-or_yes false = refl
-
-module _ (m : Machine) (answer : Answer) (s : Fine) (a : ℕ) (x : Session) (c : Course) (limits : IsWithinLimits m) (shows : Shows m answer s)
+module _ (m : Machine) (answer : Answer) (s : Fine) (a : ℕ) (x : Session) (c : Course) (limits : IsWithinLimits m)
+    (shows : Shows m answer s)
     (within : a < actor_count m) (stands : (private_of m s a).place ≡ InSession x) (is : x.phase ≡ Granting c) where
   abbrev p : Private
   p = private_of m s a
@@ -95,7 +94,8 @@ module _ (m : Machine) (answer : Answer) (s : Fine) (a : ℕ) (x : Session) (c :
   abbrev after : Private
   after =
       at (grant_own m answer a (private_of m s a) x c)
-      (InSession (with_phase x (phase_after m answer a (private_of m s a).now x (word_at m s (word.Cmap (entry_faulted m x.fault))) x.phase)))
+      (InSession (with_phase x (phase_after m answer a (private_of m s a).now x (word_at m s (word.Cmap (entry_faulted m x.fault)))
+      x.phase)))
 
   ok : SessionOk m answer a p x
   ok = session m answer s a x limits shows within stands
@@ -112,7 +112,8 @@ module _ (m : Machine) (answer : Answer) (s : Fine) (a : ℕ) (x : Session) (c :
   inside : x.fault.page < m.pages
   inside = ok.fault.page
 
-  reach : IsReach m p.guest (reach_now m a p).kind (reach_now m a p).space (reach_now m a p).addr (reach_now m a p).operand (entry_of m (reach_now m a p))
+  reach : IsReach m p.guest (reach_now m a p).kind (reach_now m a p).space (reach_now m a p).addr (reach_now m a p).operand
+      (entry_of m (reach_now m a p))
   reach =
       IsReach-wanted m a p.guest (reach_now m a p).kind (reach_now m a p).space (reach_now m a p).addr (reach_now m a p).operand fault.wants
 
@@ -155,7 +156,8 @@ module _ (m : Machine) (answer : Answer) (s : Fine) (a : ℕ) (x : Session) (c :
 
   reached : IsReachedAlone m answer a after
   reached =
-      reached-session m answer s a x limits shows within stands (Granting c) (word.Cmap entry) (op.Or (2 ^ reference_place a)) n is refl found
+      reached-session m answer s a x limits shows within stands (Granting c) (word.Cmap entry) (op.Or (2 ^ reference_place a)) n is refl
+      found
 
   owes : SessionGoes m answer s t page (Some (running a p.now x)) (Some (running a p.now (with_phase x next)))
   owes =
@@ -176,9 +178,11 @@ module _ (m : Machine) (answer : Answer) (s : Fine) (a : ℕ) (x : Session) (c :
   translation-other q e apart = by (cases_eq q a) apart
     where
       by : (q ≡ a) ⊎ (q ≢ a) → (q ≢ a) ⊎ (e ≢ entry) → translation_of m t q e ≡ translation_of m s q e
-      by (inr other) h = ap (λ (y : Private). translation_at y e) (private_of-other m s t a (word.Cmap entry) number after None changes q other)
+      by (inr other) h = ap (λ (y : Private). translation_at y e)
+          (private_of-other m s t a (word.Cmap entry) number after None changes q other)
       by (inl same) (inl other) = absurd (other same)
-      by (inl same) (inr other) = rw same (ap (λ (y : Private). translation_at y e) new ∙ get_or-set_other p.pmap entry e (Some made) None other)
+      by (inl same) (inr other) = rw same (ap (λ (y : Private). translation_at y e) new
+          ∙ get_or-set_other p.pmap entry e (Some made) None other)
 
   translation-own : translation_of m t a entry ≡ Some made
   translation-own =
@@ -242,14 +246,10 @@ module _ (m : Machine) (answer : Answer) (s : Fine) (a : ℕ) (x : Session) (c :
           (record {
             reference =
                 ap (λ k. has_reference k q) new-mask
-                ∙ (has_reference-granted n a q ∙ (ap (λ b. has_reference n q || b) (ne_eqb q a other) ∙ or_no (has_reference n q)));
+                ∙ (has_reference-granted n a q ∙ (ap (λ b. has_reference n q || b) (ne_eqb q a other) ∙ or-false (has_reference n q)));
             invalidate = ap (λ k. has_invalidate k q) new-mask ∙ has_invalidate-granted n a q few;
             restrict = ap (λ k. has_restrict k q) new-mask ∙ has_restrict-granted n a q few;
           })
-        where
-          or_no : (b : Bool) → (b || false) ≡ b
-          or_no true = refl
-          or_no false = refl
 
   -- ---- entries
 
@@ -287,13 +287,15 @@ module _ (m : Machine) (answer : Answer) (s : Fine) (a : ℕ) (x : Session) (c :
 
     ungranted-before : (y : Option Translation) → (seen_by y x.phase).granted ≡ false
     ungranted-before y =
-        ap (λ (ph : Phase). a == q && option_map_or (λ (d : Course). option_map_or (λ k. k == e) x.fault.entry false) (unlocking_of ph) false) is
-        ∙ and_no (a == q)
+        ap (λ (ph : Phase). a == q && option_map_or (λ (d : Course). option_map_or (λ k. k == e) x.fault.entry false) (unlocking_of ph)
+        false) is
+        ∙ and-false (a == q)
 
     -- the session has granted this entry to the processor only if they are the fault's
     granted-after : (y : Option Translation) → (seen_by y next).granted ≡ (a == q && entry == e)
     granted-after y =
-        ap (λ (ph : Phase). a == q && option_map_or (λ (d : Course). option_map_or (λ k. k == e) x.fault.entry false) (unlocking_of ph) false) leads
+        ap (λ (ph : Phase). a == q && option_map_or (λ (d : Course). option_map_or (λ k. k == e) x.fault.entry false) (unlocking_of ph)
+        false) leads
         ∙ (ap (λ (f : Option ℕ). a == q && option_map_or (λ k. k == e) f false) fault.entry ∙ ap (λ k. a == q && k == e) (sym faulted))
 
     -- another processor, or another entry
@@ -301,7 +303,8 @@ module _ (m : Machine) (answer : Answer) (s : Fine) (a : ℕ) (x : Session) (c :
     entry-other low there inner apart = record {
       reference = bits.reference ∙ (shows.reference_is_pmap q e inner low ∙ sym (ap is_some same));
       view_ok = rw seen-after
-          (continue_ok q o mask (seen_by o x.phase) (seen_by o next) pv gv continues (subst EntryOk (seen-before there) (shows.views q e inner low)));
+          (continue_ok q o mask (seen_by o x.phase) (seen_by o next) pv gv continues
+          (subst EntryOk (seen-before there) (shows.views q e inner low)));
       invalidate_stays = rw seen-after
           (continue_waits q o mask (seen_by o x.phase) (seen_by o next) pv gv continues
           (subst InvalidateStays (seen-before there) (shows.invalidates_stay q e inner low)));
@@ -321,7 +324,7 @@ module _ (m : Machine) (answer : Answer) (s : Fine) (a : ℕ) (x : Session) (c :
           where
             by : (q ≢ a) ⊎ (e ≢ entry) → (a == q && entry == e) ≡ false
             by (inl other) = ap (λ b. b && entry == e) (ne_eqb a q (λ h. other (sym h)))
-            by (inr other) = ap (λ b. a == q && b) (ne_eqb entry e (λ h. other (sym h))) ∙ and_no (a == q)
+            by (inr other) = ap (λ b. a == q && b) (ne_eqb entry e (λ h. other (sym h))) ∙ and-false (a == q)
 
         continues : Continues (seen_by o x.phase) (seen_by o next)
         continues = last-continues m answer a p.now x c next from to q e o (ungranted-before o) (granted-after o ∙ none)
@@ -348,7 +351,7 @@ module _ (m : Machine) (answer : Answer) (s : Fine) (a : ℕ) (x : Session) (c :
     reference =
         ap (λ k. has_reference k a) new-mask
         ∙ (has_reference-granted n a a
-        ∙ (ap (λ b. has_reference n a || b) (eq-eqb a a refl) ∙ (or_yes (has_reference n a) ∙ sym (ap is_some translation-own))));
+        ∙ (ap (λ b. has_reference n a || b) (eq-eqb a a refl) ∙ (or-true (has_reference n a) ∙ sym (ap is_some translation-own))));
     view_ok = rw seen-after granted.ok;
     invalidate_stays = rw seen-after granted.waits;
     held_ok = rw seen-after granted.held;
@@ -368,8 +371,10 @@ module _ (m : Machine) (answer : Answer) (s : Fine) (a : ℕ) (x : Session) (c :
 
       mine-now : (seen_by a entry (Some made) next).mine ≡ true
       mine-now =
-          ap (λ b. b && option_map_or (λ d. same_translation made (translation_made m answer a p.now x d entry)) (unlocking_of next) false) granted-now
-          ∙ (ap (λ (ph : Phase). option_map_or (λ d. same_translation made (translation_made m answer a p.now x d entry)) (unlocking_of ph) false) leads
+          ap (λ b. b && option_map_or (λ d. same_translation made (translation_made m answer a p.now x d entry)) (unlocking_of next) false)
+          granted-now
+          ∙ (ap (λ (ph : Phase). option_map_or (λ d. same_translation made (translation_made m answer a p.now x d entry)) (unlocking_of ph)
+          false) leads
           ∙ same_translation-itself made)
 
       grants : seen_by a entry (Some made) next ≡ with_grant (seen_by a entry (o a entry) x.phase) (seen_by a entry (Some made) next).given
@@ -400,7 +405,8 @@ module _ (m : Machine) (answer : Answer) (s : Fine) (a : ℕ) (x : Session) (c :
           same_owed =
               ap (list_any (λ (y : Target). y.entry == entry && y.processor == a))
               (to.left (targets m a x.fault.page (posts_of (with_phase x next))))
-              ∙ sym (ap (list_any (λ (y : Target). y.entry == entry && y.processor == a)) (from.left (targets m a x.fault.page (posts_of x))))
+              ∙ sym (ap (list_any (λ (y : Target). y.entry == entry && y.processor == a))
+              (from.left (targets m a x.fault.page (posts_of x))))
 
       fresh : (test : Removed → Bool) → later test s.history (page_of m entry) c.stamp.seq ≡ false
       fresh test =
@@ -418,11 +424,14 @@ module _ (m : Machine) (answer : Answer) (s : Fine) (a : ℕ) (x : Session) (c :
 
       seen-after :
           view m answer t a entry
-          ≡ view_of a (Some made) (mask a entry) (seen_by a entry (Some made) next) (pv a entry) (page_view m s (page_of m entry) (Some made))
+          ≡ view_of a (Some made) (mask a entry) (seen_by a entry (Some made) next) (pv a entry)
+          (page_view m s (page_of m entry) (Some made))
       seen-after =
-          (λ i. view_of a (translation-own i) (new-mask i) (session_view m answer a entry (translation-own i) (now-on i)) (place-still a entry i)
+          (λ i. view_of a (translation-own i) (new-mask i) (session_view m answer a entry (translation-own i) (now-on i))
+          (place-still a entry i)
           (page-still (page_of m entry) (translation-own i) i))
-          ∙ view-bits a (Some made) number (mask a entry) (seen_by a entry (Some made) next) (pv a entry) (page_view m s (page_of m entry) (Some made))
+          ∙ view-bits a (Some made) number (mask a entry) (seen_by a entry (Some made) next) (pv a entry)
+          (page_view m s (page_of m entry) (Some made))
           (has_invalidate-granted n a a few) (has_restrict-granted n a a few)
         where
           now-on : session_on t.privates (page_of m entry) ≡ Some (running a p.now (with_phase x next))
@@ -430,10 +439,12 @@ module _ (m : Machine) (answer : Answer) (s : Fine) (a : ℕ) (x : Session) (c :
 
       granted :
           ViewOk
-          (view_of a (Some made) (mask a entry) (seen_by a entry (Some made) next) (pv a entry) (page_view m s (page_of m entry) (Some made)))
+          (view_of a (Some made) (mask a entry) (seen_by a entry (Some made) next) (pv a entry)
+          (page_view m s (page_of m entry) (Some made)))
           (held_view m t a entry)
       granted =
-          granted-view a (o a entry) made (mask a entry) (seen_by a entry (o a entry) x.phase) (seen_by a entry (Some made) next) (pv a entry)
+          granted-view a (o a entry) made (mask a entry) (seen_by a entry (o a entry) x.phase) (seen_by a entry (Some made) next)
+          (pv a entry)
           (gv a entry) (page_view m s (page_of m entry) (Some made)) (held_view m s a entry) (held_view m t a entry) refl
           (subst ViewFacts (seen-before a entry of_page)
           (view_facts m answer s limits shows (alone m answer s limits shows) a entry node below))

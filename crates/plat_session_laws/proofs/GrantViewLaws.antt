@@ -11,7 +11,8 @@ use Rattle.plat_base.specs.declared.items.Translation.{Translation}
 use Rattle.plat_base.proofs.CopiesLemmas.{same_frame-itself}
 use Rattle.plat_laws.proofs.TableLaws.{same_bool-itself, same_right-itself, all_three}
 use Rattle.plat_events.specs.Words.{has_invalidate, has_restrict}
-use Rattle.plat_events.specs.Views.{Own, View, SessionView, PlaceView, PageView, EntryOk, InvalidateStays, HeldView, HeldOk, names_copy, same_translation, view_of}
+use Rattle.plat_events.specs.Views.{Own, View, SessionView, PlaceView, PageView, EntryOk, InvalidateStays, HeldView, HeldOk, names_copy}
+use Rattle.plat_events.specs.Views.{same_translation, view_of}
 use Rattle.plat_views.specs.Facts.{ViewFacts}
 use Rattle.plat_session_laws.specs.OnePage.{ViewOk}
 
@@ -65,7 +66,8 @@ abbrev pub with_none : PageView → PageView
 with_none x = record x { all_after = false; writes_after = false }
 
 pub granted-view :
-    (q : ℕ) (t : Option Translation) (made : Translation) (mask : ℕ) (x y : SessionView) (pv : PlaceView) (gv gv' : PageView) (h h' : HeldView) →
+    (q : ℕ) (t : Option Translation) (made : Translation) (mask : ℕ) (x y : SessionView) (pv : PlaceView) (gv gv' : PageView)
+    (h h' : HeldView) →
     made.restricted ≡ false → ViewFacts (view_of q t mask x pv gv) → ViewOk (view_of q t mask x pv gv) h → x.whose ≡ Own →
     pv.active ≡ true → y ≡ with_grant x y.given → gv' ≡ with_none gv → ViewOk (view_of q (Some made) mask y pv gv') h'
 granted-view q t made mask x y pv gv gv' h h' unmarked facts view own active grants none =

@@ -1,5 +1,6 @@
 -- a session whose frames are filled and given back goes on to its grant and to its unlock
-use Rattle.std.specs.Prelude.{◌≡◌, ℕ, ◌+◌, ◌<◌, ◌≤◌, ◌==◌, ◌&&◌, is_some, if◌then◌else◌, true, false, List, [], length, take, Option, Some, None, IsTrue}
+use Rattle.std.specs.Prelude.{◌≡◌, ℕ, ◌+◌, ◌<◌, ◌≤◌, ◌==◌, ◌&&◌, is_some, if◌then◌else◌, true, false, List, [], length, take, Option, Some}
+use Rattle.std.specs.Prelude.{None, IsTrue}
 use Rattle.std.proofs.Common.{refl, ap, sym, ◌∙◌, arith, subst}
 use Rattle.std.specs.List.{list_any}
 use Rattle.std.specs.Option.{option_map_or}
@@ -20,7 +21,8 @@ use Rattle.plat_base.specs.declared.words.WordName.TheVariants as word
 use Rattle.plat_events.specs.Words.{dir_read, is_locked, stamp_word}
 use Rattle.plat_events.specs.Shootdowns.{Target, targets}
 use Rattle.plat_events.specs.Sessions.{Course, Phase, Storing, Granting, Unlocking, Session, decision_of, going, last_stored, with_phase}
-use Rattle.plat_events.specs.Standings.{course_of, stamp_of, hand_of, has_given, is_quiet, is_stamped, posts_of, removes_by, saw_no_frame, word_copied, words_filled}
+use Rattle.plat_events.specs.Standings.{course_of, stamp_of, hand_of, has_given, is_quiet, is_stamped, posts_of, removes_by, saw_no_frame}
+use Rattle.plat_events.specs.Standings.{word_copied, words_filled}
 use Rattle.plat_events.specs.Kept.{Running, session_on, word_at}
 use Rattle.plat_events.specs.Views.{session_viewed, is_granted_by}
 use Rattle.plat_events.specs.Runs.{Fine}
@@ -30,40 +32,13 @@ use Rattle.plat_session_laws.specs.OnePage.{SessionGoes}
 use Rattle.plat_session_laws.specs.LastPhases.{LastPhase}
 
 pub last-storing : (m : Machine) (a : ℕ) (c : Course) → LastPhase m a c (Storing c)
-last-storing m a c = record {
-  course = refl;
-  stamp = refl;
-  quiet = refl;
-  left = λ ts. refl;
-  filled = refl;
-  copied = refl;
-  given = λ fs. refl;
-  saw = refl;
-}
+last-storing m a c = search arith
 
 pub last-granting : (m : Machine) (a : ℕ) (c : Course) → LastPhase m a c (Granting c)
-last-granting m a c = record {
-  course = refl;
-  stamp = refl;
-  quiet = refl;
-  left = λ ts. refl;
-  filled = refl;
-  copied = refl;
-  given = λ fs. refl;
-  saw = refl;
-}
+last-granting m a c = search arith
 
 pub last-unlocking : (m : Machine) (a : ℕ) (c : Course) → LastPhase m a c (Unlocking c)
-last-unlocking m a c = record {
-  course = refl;
-  stamp = refl;
-  quiet = refl;
-  left = λ ts. refl;
-  filled = refl;
-  copied = refl;
-  given = λ fs. refl;
-  saw = refl;
-}
+last-unlocking m a c = search arith
 
 -- the stamp of a page whose session has stored its own
 pub stamped-by :
@@ -109,7 +84,8 @@ module _ (m : Machine) (answer : Answer) (a now : ℕ) (x : Session) (c : Course
     whose = refl;
     posted = λ i.
         removes_some (option_map_or (λ d. (decision_of m answer a now x d).removed) (same-course i) Nothing)
-        && list_any (λ y. y == e) (take (length (option_map_or (λ (d : Course). d.posts) (same-course i) [])) (entries_of_page m x.fault.page));
+        && list_any (λ y. y == e) (take (length (option_map_or (λ (d : Course). d.posts) (same-course i) []))
+        (entries_of_page m x.fault.page));
     owed =
         ap (list_any (λ (y : Target). y.entry == e && y.processor == q)) (to.left (targets m a x.fault.page (posts_of (with_phase x next))))
         ∙ sym (ap (list_any (λ (y : Target). y.entry == e && y.processor == q)) (from.left (targets m a x.fault.page (posts_of x))));
@@ -151,7 +127,13 @@ module _ (m : Machine) (answer : Answer) (a now : ℕ) (x : Session) (c : Course
       hand = λ r f e. only
           (λ y. hand_of y.session ≡ Some f → (z : Running) × (Some (running a now x) ≡ Some z) × (hand_of z.session ≡ Some f)
           × (words_filled m y.session.phase ≤ words_filled m z.session.phase))
-          (λ hand. (running a now x, refl, sym hand-last ∙ hand, let more = from.filled in let less = to.filled in omega (arith, more, less))) r e;
+          (λ hand. (
+            running a now x,
+            refl,
+            sym hand-last ∙ hand,
+            let more = from.filled in let less = to.filled in
+                omega (arith, more, less),
+          )) r e;
       copied = only (λ r. word_copied r.session.phase ≡ None) to.copied;
       back = given-last;
       in_hand = λ f. ap (λ (o : Option Frame). option_map_or (same_frame f) o false) hand-last;

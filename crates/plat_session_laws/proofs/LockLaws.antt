@@ -75,9 +75,11 @@ module _ (m : Machine) (answer : Answer) (s : Fine) (a : ℕ) (limits : IsWithin
 
   -- what the lock changes, and that its actor alone comes there, by what it found
   changes-by :
-      (b : Bool) → is_locked n ≡ b → Changes m s (event m answer s a) a name (bit_or n 8) (stood b) None × IsReachedAlone m answer a (stood b)
+      (b : Bool) → is_locked n ≡ b → Changes m s (event m answer s a) a name (bit_or n 8) (stood b) None
+      × IsReachedAlone m answer a (stood b)
   changes-by b is = (
-    subst (λ c. Changes m s (event m answer s a) a name (bit_or n 8) (stood c) None) is (lock-changes m answer s a p lock-here fault stands lock-found),
+    subst (λ c. Changes m s (event m answer s a) a name (bit_or n 8) (stood c) None)
+        is (lock-changes m answer s a p lock-here fault stands lock-found),
     subst (λ c. IsReachedAlone m answer a (stood c)) is
         (reached-moved m answer a p (Locking fault) n name (op.Or (2 ^ lock_place)) (shows.reached_alone a within) stands refl lock-found),
   )

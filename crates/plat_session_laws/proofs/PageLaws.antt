@@ -1,5 +1,6 @@
 -- an operation on one page by the actor of its session: the invariant holds on where it holds of the page and of its entries
-use Rattle.std.specs.Prelude.{◌≡◌, ◌≢◌, ◌⊎◌, ℕ, ◌+◌, ◌<◌, ◌≤◌, not, nat_lt, if◌then◌else◌, true, false, length, Option, Some, None, is_some, IsTrue, slice_get}
+use Rattle.std.specs.Prelude.{◌≡◌, ◌≢◌, ◌⊎◌, ℕ, ◌+◌, ◌<◌, ◌≤◌, not, nat_lt, if◌then◌else◌, true, false, length, Option, Some, None, is_some}
+use Rattle.std.specs.Prelude.{IsTrue, slice_get}
 use Rattle.std.proofs.Common.{refl, ap, sym, ◌∙◌, inl, inr, arith, subst}
 use Rattle.std.specs.List.{sum_by}
 use Rattle.std.specs.Option.{option_map}
@@ -28,15 +29,19 @@ use Rattle.plat_events.specs.Standings.{stamp_of, is_quiet, words_filled, word_c
 use Rattle.plat_events.specs.Kept.{Running, running_of, session_on, session_of, is_copy_of, is_kept, gave_back, word_at, private_of}
 use Rattle.plat_events.specs.Views.{EntryOk, HeldOk, InvalidateStays, view, held_view, place_view, translation_of}
 use Rattle.plat_events.specs.Runs.{Fine, ends_of}
-use Rattle.plat_events.specs.Shown.{act_of, bit_of, goes_to, kind_for, stamp_by, flat_word, frame_word, uses_of, is_hand, IsReachedAlone, Shows}
+use Rattle.plat_events.specs.Shown.{act_of, bit_of, goes_to, kind_for, stamp_by, flat_word, frame_word, uses_of, is_hand, IsReachedAlone}
+use Rattle.plat_events.specs.Shown.{Shows}
 use Rattle.plat_laws.specs.Guests.{IsWithinLimits}
 use Rattle.plat_fine_laws.specs.Changes.{Changes, KeepsEntry}
 use Rattle.plat_fine_laws.proofs.WordLaws.{word_at-other}
 use Rattle.plat_fine_laws.proofs.PrivateLaws.{private_of-get, private_of-new, private_of-other}
 use Rattle.plat_fine_laws.proofs.SessionOnLaws.{session_on-set}
 use Rattle.plat_fine_laws.proofs.EndFieldLaws.{turns-still, live-still}
-use Rattle.plat_fine_laws.proofs.ActorFieldLaws.{words_encoded-kept, all_words-kept, all_privates-kept, each-private, journals-kept, reached-kept}
-use Rattle.plat_fine_laws.proofs.PageFieldLaws.{dir_read_is-kept, stamp_read_is-kept, lock_is_session-kept, dir_is_history-kept, stamp_is_history-kept, copies_fit-kept, hand_apart-kept, enough_finds-kept, posts_made-kept, fault_not_held-kept}
+use Rattle.plat_fine_laws.proofs.ActorFieldLaws.{words_encoded-kept, all_words-kept, all_privates-kept, each-private, journals-kept}
+use Rattle.plat_fine_laws.proofs.ActorFieldLaws.{reached-kept}
+use Rattle.plat_fine_laws.proofs.PageFieldLaws.{dir_read_is-kept, stamp_read_is-kept, lock_is_session-kept, dir_is_history-kept}
+use Rattle.plat_fine_laws.proofs.PageFieldLaws.{stamp_is_history-kept, copies_fit-kept, hand_apart-kept, enough_finds-kept, posts_made-kept}
+use Rattle.plat_fine_laws.proofs.PageFieldLaws.{fault_not_held-kept}
 use Rattle.plat_fine_laws.proofs.FrameFieldLaws.{is_kept-same, kept_flat-kept, hand_flat-kept, read_flat-kept}
 use Rattle.plat_fine_laws.proofs.ViewFieldLaws.{views-kept, invalidates_stay-kept, held_is_pmap-kept, reference_is_pmap-kept}
 use Rattle.plat_frame_laws.proofs.SumLaws.{sum-same}
@@ -45,7 +50,8 @@ use Rattle.plat_frame_laws.proofs.FrameUseLaws.{page_uses}
 use Rattle.plat_session_laws.specs.OnePage.{is_of_page, ShowsPage, ShowsEntry, LeavesOthers, ActorGoes}
 use Rattle.plat_session_laws.proofs.SoleLaws.{NoneBut, session_on-sole, found_in-on, found_in-off}
 
-module _ (m : Machine) (answer : Answer) (s t : Fine) (a : ℕ) (name : WordName) (number : ℕ) (after : Private) (made : Option Item) (page : ℕ)
+module _ (m : Machine) (answer : Answer) (s t : Fine) (a : ℕ) (name : WordName) (number : ℕ) (after : Private) (made : Option Item)
+    (page : ℕ)
     (limits : IsWithinLimits m) (shows : Shows m answer s) (within : a < actor_count m) (changes : Changes m s t a name number after made)
     (named : IsTrue (is_name m name)) (of_page : is_of_page m page name ≡ true)
     (goes : ActorGoes m a (private_of m s a) after made page)
@@ -265,7 +271,8 @@ module _ (m : Machine) (answer : Answer) (s t : Fine) (a : ℕ) (name : WordName
         w < words_filled m r.session.phase → frame_word m t f w ≡ flat_word m t.history k w) (own.hand_flat w)
         (λ k n r f on hand filled.
         let ok = hand-machine m answer s limits shows k w r f (sym (others k n) ∙ on) hand filled in
-        hand_flat-kept m answer s t shows k (leaves.pages k n) w r f (leaves.flat k w n) (frame-word f w ok.frame ok.word) on hand filled) q;
+        hand_flat-kept m answer s t shows k (leaves.pages k n) w r f (leaves.flat k w n) (frame-word f w ok.frame ok.word) on hand filled)
+        q;
     read_flat =
         by_page
         (λ k. (r : Running) (x : ℕ × ℕ) → session_on t.privates k ≡ Some r → word_copied r.session.phase ≡ Some x →

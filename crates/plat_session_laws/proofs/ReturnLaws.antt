@@ -1,5 +1,6 @@
 -- the unlock of a page that stays as it was keeps the invariant: its session ends
-use Rattle.std.specs.Prelude.{◌≡◌, ◌≢◌, ℕ, ◌+◌, ◌*◌, ◌/◌, ◌<◌, ◌==◌, not, nat_lt, if◌then◌else◌, Bool, true, false, Option, Some, None, IsTrue}
+use Rattle.std.specs.Prelude.{◌≡◌, ◌≢◌, ℕ, ◌+◌, ◌*◌, ◌/◌, ◌<◌, ◌==◌, not, nat_lt, if◌then◌else◌, Bool, true, false, Option, Some, None}
+use Rattle.std.specs.Prelude.{IsTrue}
 use Rattle.std.proofs.Common.{refl, ap, sym, ◌∙◌, inl, inr, arith, subst}
 use Rattle.std.specs.Option.{option_map, option_map_or}
 use Rattle.std.proofs.lemmas.Bool.{true≢false, eq-eqb, ne_eqb}
@@ -24,7 +25,7 @@ use Rattle.plat_events.specs.Privates.{InSession, Locking, LiveLooking, Leaving,
 use Rattle.plat_events.specs.Events.{at, thaw_of}
 use Rattle.plat_events.specs.Standings.{saw_no_frame}
 use Rattle.plat_events.specs.Kept.{Running, session_on, session_of, word_at, private_of}
-use Rattle.plat_events.specs.Views.{no_session, session_view, session_viewed, place_view, page_view, translation_of, view_of, held_view, view}
+use Rattle.plat_events.specs.Views.{session_view, place_view, page_view, translation_of, view_of, held_view}
 use Rattle.plat_events.specs.Runs.{Fine, event}
 use Rattle.plat_events.specs.Shown.{goes_to, stamp_by, IsReachedAlone, Shows}
 use Rattle.plat_local_laws.specs.Phases.{PhaseOk, ReturningOk, SessionOk}
@@ -38,7 +39,8 @@ use Rattle.plat_frame_laws.specs.StartPhases.{StartPhase}
 use Rattle.plat_frame_laws.proofs.SessionHereLaws.{here, session, reached-session}
 use Rattle.plat_session_laws.specs.OnePage.{ActorGoes, IsSteady, SessionGoes, ViewOk}
 use Rattle.plat_session_laws.proofs.SessionGoesLaws.{shows-going}
-use Rattle.plat_session_laws.proofs.UnpostedLaws.{unposted-none, start-returning, unposted-start, turned-views}
+use Rattle.plat_frame_laws.proofs.StartPhaseLaws.{start-returning}
+use Rattle.plat_session_laws.proofs.UnpostedLaws.{unposted-none, unposted-start, given-way}
 use Rattle.plat_session_laws.proofs.SteadyLaws.{steady-goes, steady-session}
 use Rattle.plat_session_laws.proofs.BeginLaws.{no_stamp, unstamped-stamp}
 
@@ -63,33 +65,9 @@ record Returns (m : Machine) (p after : Private) : Type 0 where
   session : session_of after.place ≡ None
 
 returns-by : (m : Machine) (p : Private) (x : Session) (daemon more : Bool) → Returns m p (returned_by m p x daemon more)
-returns-by m p x true true = record {
-  steady = record { over = refl; left = refl; ended = refl; scan = refl; message = refl };
-  turns = refl;
-  now = refl;
-  space = refl;
-  journal = refl;
-  pmap = refl;
-  session = refl;
-}
-returns-by m p x true false = record {
-  steady = record { over = refl; left = refl; ended = refl; scan = refl; message = refl };
-  turns = refl;
-  now = refl;
-  space = refl;
-  journal = refl;
-  pmap = refl;
-  session = refl;
-}
-returns-by m p x false more = record {
-  steady = record { over = refl; left = refl; ended = refl; scan = refl; message = refl };
-  turns = refl;
-  now = refl;
-  space = refl;
-  journal = refl;
-  pmap = refl;
-  session = refl;
-}
+returns-by m p x true true = search arith
+returns-by m p x true false = search arith
+returns-by m p x false more = search arith
 
 daemon-framed : (m : Machine) (p : Private) (x : Session) (more : Bool) → goes_to (returned_by m p x true more).place ≢ Some end.NoFrames
 daemon-framed m p x true e = absurd cc
@@ -173,25 +151,9 @@ module _ (m : Machine) (answer : Answer) (s : Fine) (a : ℕ) (x : Session) (lim
       (place_view m (private_of m s q) e) (page_view m s (page_of m e) (translation_of m s q e)))
       (held_view m s q e)
   views q e node below there =
-      turned-views q (translation_of m s q e) (word_at m s (word.Cmap e)) (session_viewed m answer q e (translation_of m s q e) r) no_session
-      (place_view m (private_of m s q) e) (page_view m s (page_of m e) (translation_of m s q e)) (held_view m s q e)
-      (unposted-start m answer a p.now x no_stamp None x.phase start q e (translation_of m s q e)) unposted-none
-      (subst (λ v. ViewOk v (held_view m s q e)) seen
-      (record {
-        ok = shows.views q e node below;
-        waits = shows.invalidates_stay q e node below;
-        held = shows.held_is_pmap q e node below;
-      }))
-    where
-      seen :
-          view m answer s q e
-          ≡ view_of q (translation_of m s q e) (word_at m s (word.Cmap e)) (session_viewed m answer q e (translation_of m s q e) r)
-          (place_view m (private_of m s q) e) (page_view m s (page_of m e) (translation_of m s q e))
-      seen =
-          ap
-          (λ o. view_of q (translation_of m s q e) (word_at m s (word.Cmap e)) (session_view m answer q e (translation_of m s q e) o)
-          (place_view m (private_of m s q) e) (page_view m s (page_of m e) (translation_of m s q e)))
-          (ap (session_on s.privates) there ∙ on)
+      given-way m answer s q e (Some r) None shows node below (ap (session_on s.privates) there ∙ on)
+      (unposted-start m answer a p.now x no_stamp None x.phase start q e (translation_of m s q e))
+      unposted-none
 
   -- with enough frames no processor comes here
   framed : HasEnoughFrames m → goes_to after.place ≢ Some end.NoFrames
@@ -221,7 +183,8 @@ module _ (m : Machine) (answer : Answer) (s : Fine) (a : ℕ) (x : Session) (lim
 
   pub keeps_return : Shows m answer (event m answer s a)
   keeps_return =
-      shows-going m answer s t a (word.Dir page) (dir_word x.dir false) after page limits shows within changes named (eq-eqb page page refl) goes
+      shows-going m answer s t a (word.Dir page) (dir_word x.dir false) after page limits shows within changes named (eq-eqb page page refl)
+      goes
       (λ y there. sole y (sym on ∙ there)) returns.pmap (λ e h. absurd cc) (Some r) None on ended owes inside views
       (is_dir_word-dir m x.dir false (nodes-most m limits) (frames-most m limits) ok.dir) reached
     where

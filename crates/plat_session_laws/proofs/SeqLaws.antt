@@ -1,10 +1,13 @@
 -- a page has fewer changes than the longest history has items, in every state with the invariant
-use Rattle.std.specs.Prelude.{◌≡◌, ◌≢◌, ◌⊎◌, ℕ, zero, suc, ◌+◌, ◌*◌, ◌<◌, ◌≤◌, ◌==◌, nat_lt, ◌&&◌, not, ◌||◌, if◌then◌else◌, Bool, true, false, List, [], ◌∷◌, ◌++◌, length, cond, replicate, option_to_list, slice_index, slice_index_or, ◌-◌, Some, None}
+use Rattle.std.specs.Prelude.{◌≡◌, ◌≢◌, ◌⊎◌, ℕ, zero, suc, ◌+◌, ◌*◌, ◌<◌, ◌≤◌, ◌==◌, nat_lt, ◌&&◌, not, ◌||◌, if◌then◌else◌, Bool, true}
+use Rattle.std.specs.Prelude.{false, List, [], ◌∷◌, ◌++◌, length, cond, replicate, option_to_list, slice_index, slice_index_or, ◌-◌, Some}
+use Rattle.std.specs.Prelude.{None}
 use Rattle.std.proofs.Common.{refl, ap, sym, ◌∙◌, inl, inr, arith, subst}
 use Rattle.std.specs.List.{fold, sum_by, count_by, list_all, range_with_len}
-use Rattle.std.proofs.lemmas.Bool.{cases_eq, eq-eqb, ne_eqb, eqb-true, and_parts}
+use Rattle.std.proofs.lemmas.Bool.{cases_eq, eq-eqb, ne_eqb, eqb-true, and_parts, cases_lt}
 use Rattle.std.proofs.lemmas.Bool.Decides.{nat_tests}
 use Rattle.std.proofs.lemmas.List.Sums.{sum_by-cons}
+use Rattle.plat_base.specs.Items.{is_change}
 use Rattle.plat_base.specs.Verdicts.{Answer}
 use Rattle.plat_base.specs.Machine.{Machine}
 use Rattle.plat_base.specs.Pages.{numbers}
@@ -24,16 +27,15 @@ use Rattle.plat_base.proofs.RoomLemmas.{thaws_most}
 use Rattle.plat_events.specs.Places.{most_changes}
 use Rattle.plat_laws.specs.Guests.{IsWithinLimits}
 use Rattle.plat_laws.proofs.Limits.{nodes-most, budget-most}
-use Rattle.plat_laws.proofs.AccessLaws.{both_here, kept_rule}
 use Rattle.plat_events.specs.Privates.{actor_count}
 use Rattle.plat_events.specs.Kept.{private_of}
 use Rattle.plat_events.specs.Runs.{Fine, ends_of}
 use Rattle.plat_events.specs.Shown.{actor_of, bit_of, items_by, Shows}
-use Rattle.plat_local_laws.specs.Numbers.{is_change}
 use Rattle.plat_local_laws.proofs.RoomLaws.{journal_fits}
 use Rattle.plat_fine_laws.proofs.AloneLaws.{alone_ok}
-use Rattle.plat_fine_laws.proofs.GoodLaws.{good-items}
 use Rattle.plat_frame_laws.proofs.SumLaws.{sum-one, sum-same}
+use Rattle.plat_base.proofs.RuleLemmas.{unless-none, bad_at-none}
+use Rattle.plat_laws.proofs.HistoryLaws.{good-items}
 
 abbrev changes_in : List Item → ℕ
 changes_in items = count_by is_change items
@@ -63,13 +65,16 @@ seq-counted page n (item.Switch x ∷ is) = omega (arith, seq-counted page n is,
 
 -- ---- each change is that of an actor of the machine
 
-actor-change : (m : Machine) (answer : Answer) (items : List Item) (c : Change) → is_chained m answer items c ≡ true → c.actor < actor_count m
+actor-change : (m : Machine) (answer : Answer) (items : List Item) (c : Change) → is_chained m answer items c ≡ true →
+    c.actor < actor_count m
 actor-change m answer items c h = by (nat_lt c.actor m.nodes) refl rest
   where
-    rest : (if nat_lt c.actor m.nodes then is_fault_change m answer items c c.granted else c.actor == m.nodes && is_thaw_change m answer items c) ≡ true
+    rest : (if nat_lt c.actor m.nodes then is_fault_change m answer items c c.granted else c.actor == m.nodes
+        && is_thaw_change m answer items c) ≡ true
     rest =
         (and_parts (nat_lt c.page m.pages && c.seq == seq_of items c.page && same_dir c.before (dir_of items c.page))
-        (if nat_lt c.actor m.nodes then is_fault_change m answer items c c.granted else c.actor == m.nodes && is_thaw_change m answer items c) h).1
+        (if nat_lt c.actor m.nodes then is_fault_change m answer items c c.granted else c.actor == m.nodes
+        && is_thaw_change m answer items c) h).1
 
     first : (a b : Bool) → (a && b) ≡ true → a ≡ true
     first true b e = refl
@@ -97,19 +102,20 @@ pub changes-within :
     list_all (is_within (actor_count m)) items ≡ true
 changes-within m answer before k [] good = refl
 changes-within m answer before k (i ∷ is) good =
-    let parts = both_here k (bad_rule m answer before i) (bad_after m answer (before ++ i ∷ []) (k + 1) is) good in
+    let parts = bad_at-none k (bad_rule m answer before i) (bad_after m answer (before ++ i ∷ []) (k + 1) is) good in
     rw (one i parts.0) (changes-within m answer (before ++ i ∷ []) (k + 1) is parts.1)
   where
     one : (i : Item) → bad_rule m answer before i ≡ None → is_within (actor_count m) i ≡ true
     one (item.Access x) ok = refl
     one (item.Change c) ok =
-        let below = actor-change m answer before c (kept_rule (is_chained m answer before c) rule.Chain ok) in grind (arith, nat_tests)
+        let below = actor-change m answer before c (unless-none (is_chained m answer before c) rule.Chain ok) in grind (arith, nat_tests)
     one (item.Applied x) ok = refl
     one (item.Switch x) ok = refl
 
 -- ---- so they are among those of the actors
 
-all-by : (n : ℕ) (items : List Item) → list_all (is_within n) items ≡ true → changes_in items ≤ sum_by (λ b. changes_in (items_by b items)) (numbers n)
+all-by : (n : ℕ) (items : List Item) → list_all (is_within n) items ≡ true →
+    changes_in items ≤ sum_by (λ b. changes_in (items_by b items)) (numbers n)
 all-by n [] all = omega arith
 all-by n (i ∷ is) all =
     let parts = and_parts (is_within n i) (list_all (is_within n) is) all in by (is_change i) refl parts.0 (all-by n is parts.1)
@@ -146,7 +152,8 @@ all-by n (i ∷ is) all =
         let here : new (actor_of i) ≡ 1 + old (actor_of i) =
         new-is (actor_of i) ∙ rw (eq-eqb (actor_of i) (actor_of i) refl, is_one) refl in
         let one = sum-one old new n (actor_of i) below
-        (λ b inside apart. sym (new-is b ∙ ap (λ c. bit_of (c && is_change i) + old b) (ne_eqb (actor_of i) b (λ e. apart (sym e))) ∙ plus (old b))) in
+        (λ b inside apart. sym (new-is b ∙ ap (λ c. bit_of (c && is_change i) + old b) (ne_eqb (actor_of i) b (λ e. apart (sym e)))
+        ∙ plus (old b))) in
         let one_more : bit_of (is_change i) ≡ 1 = ap bit_of is_one in omega (arith, counts i is, here, one, less, one_more)
 
 -- ---- how many they are
@@ -154,15 +161,22 @@ all-by n (i ∷ is) all =
 most-plain : (f : ℕ → ℕ) (a n : ℕ) → ((b : ℕ) → a ≤ b → b < a + n → f b ≤ 65536) → sum_by f (range_with_len a n) ≤ n * 65536
 most-plain f a zero each = omega arith
 most-plain f a (suc n) each =
-    omega (arith, sum_by-cons f a (range_with_len (a + 1) n), each a (omega arith) (omega arith), most-plain f (a + 1) n (λ b low high. each b (omega arith) (omega arith)))
+    omega (
+      arith,
+      sum_by-cons f a (range_with_len (a + 1) n),
+      each a (omega arith) (omega arith),
+      most-plain f (a + 1) n (λ b low high. each b (omega arith) (omega arith)),
+    )
 
 most-one :
     (f : ℕ → ℕ) (p a n : ℕ) → ((b : ℕ) → a ≤ b → b < a + n → b ≢ p → f b ≤ 65536) → f p ≤ 524288 →
     sum_by f (range_with_len a n) ≤ n * 65536 + 524288
 most-one f p a zero each last = omega arith
-most-one f p a (suc n) each last = by (cases_eq a p) (most-one f p (a + 1) n (λ b low high apart. each b (omega arith) (omega arith) apart) last)
+most-one f p a (suc n) each last =
+    by (cases_eq a p) (most-one f p (a + 1) n (λ b low high apart. each b (omega arith) (omega arith) apart) last)
   where
-    by : (a ≡ p) ⊎ (a ≢ p) → sum_by f (range_with_len (a + 1) n) ≤ n * 65536 + 524288 → sum_by f (range_with_len a (suc n)) ≤ suc n * 65536 + 524288
+    by : (a ≡ p) ⊎ (a ≢ p) → sum_by f (range_with_len (a + 1) n) ≤ n * 65536 + 524288 →
+        sum_by f (range_with_len a (suc n)) ≤ suc n * 65536 + 524288
     by (inl same) more =
         let here : f a ≤ 524288 = subst (λ k. f k ≤ 524288) (sym same) last in
         let rest = most-plain f (a + 1) n (λ b low high. each b (omega arith) (omega arith) (λ e. absurd (omega arith))) in
@@ -226,12 +240,10 @@ module _ (m : Machine) (answer : Answer) (s : Fine) (limits : IsWithinLimits m) 
   all-made : sum_by made (numbers (actor_count m)) ≤ 9 * 65536 + 524288
   all-made = by (cases_lt m.nodes (actor_count m))
     where
-      cases_lt : (i k : ℕ) → (i < k) ⊎ (k ≤ i)
-      cases_lt i k = grind arith
-
       by : (m.nodes < actor_count m) ⊎ (actor_count m ≤ m.nodes) → sum_by made (numbers (actor_count m)) ≤ 9 * 65536 + 524288
       by (inl daemon) =
-          let most = most-one made m.nodes 0 (actor_count m) (λ b low high apart. made-processor b (omega arith) apart) (made-daemon daemon) in
+          let most = most-one made m.nodes 0 (actor_count m) (λ b low high apart. made-processor b (omega arith) apart)
+          (made-daemon daemon) in
           let few = few-actors in omega (arith, most, few)
       by (inr none) =
           let most = most-plain made 0 (actor_count m) (λ b low high. made-processor b (omega arith) (λ e. absurd (omega arith))) in

@@ -179,11 +179,13 @@ module _ (m : Machine) (answer : Answer) (s t : Fine) (a : ℕ) (name : WordName
   seen-after q e below on = λ i.
       view_of q (translation-same q e i) (mask e below i) (session_view m answer q e (translation-same q e i) (there i))
       (place-same m answer s t a name number after None page limits shows within changes named of_page goes sole q e i)
-      (page_view-still m answer s t a name number after page limits shows within changes named of_page goes sole (λ q e apart. translation-same q e) old next was is owes (page_of m e)
+      (page_view-still m answer s t a name number after page limits shows within changes named of_page goes sole
+      (λ q e apart. translation-same q e) old next was is owes (page_of m e)
       (translation-same q e i) i)
     where
       there : session_on t.privates (page_of m e) ≡ next
-      there = ap (session_on t.privates) on ∙ comes_on m answer s t a name number after page limits shows within changes named of_page goes sole (λ q e apart. translation-same q e) old next was is owes
+      there = ap (session_on t.privates) on ∙ comes_on m answer s t a name number after page limits shows within changes named of_page goes
+          sole (λ q e apart. translation-same q e) old next was is owes
 
   held-still : (q e : ℕ) → held_view m t q e ≡ held_view m s q e
   held-still q e = λ i. record {
@@ -192,9 +194,11 @@ module _ (m : Machine) (answer : Answer) (s t : Fine) (a : ℕ) (name : WordName
     same = agrees (translation-same q e i) (held m (changes.history i) q e);
   }
 
-  entry-ok : (q e : ℕ) → q < m.nodes → e < entry_count m → page_of m e ≡ page → ViewOk (seen q e) (held_view m s q e) → ShowsEntry m answer t q e
+  entry-ok : (q e : ℕ) → q < m.nodes → e < entry_count m → page_of m e ≡ page → ViewOk (seen q e) (held_view m s q e) →
+      ShowsEntry m answer t q e
   entry-ok q e inside below on view = record {
-    reference = (λ i. has_reference (mask e below i) q) ∙ (shows.reference_is_pmap q e inside below ∙ sym (λ i. is_some (translation-same q e i)));
+    reference = (λ i. has_reference (mask e below i) q)
+        ∙ (shows.reference_is_pmap q e inside below ∙ sym (λ i. is_some (translation-same q e i)));
     view_ok = rw (seen-after q e below on) view.ok;
     invalidate_stays = rw (seen-after q e below on) view.waits;
     held_ok = rw (seen-after q e below on, held-still q e) view.held;
@@ -209,5 +213,6 @@ module _ (m : Machine) (answer : Answer) (s t : Fine) (a : ℕ) (name : WordName
       (held_view m s q e)) →
       IsTrue (is_word m name number) → IsReachedAlone m answer a after → Shows m answer t
   shows-going below views encoded reached =
-      shows-there m answer s t a name number after page limits shows within changes named of_page goes sole (λ q e apart. translation-same q e) old next was is owes
+      shows-there m answer s t a name number after page limits shows within changes named of_page goes sole
+      (λ q e apart. translation-same q e) old next was is owes
       below (λ q e inside under on. entry-ok q e inside under on (views q e inside under on)) encoded reached

@@ -40,14 +40,16 @@ found_from-sole page k i [] p p' here none = absurd cc
 found_from-sole page k zero (x ∷ ps) p p' here none =
     let number : k + zero ≡ k = omega arith in
     found_from-first page k p' ps
-    ∙ (ap (found_or (found_in page (running_of (k, p')))) (found_from-none page (k + 1) (k + zero) ps (none-rest page k (k + zero) x ps none) (omega arith))
+    ∙ (ap (found_or (found_in page (running_of (k, p'))))
+    (found_from-none page (k + 1) (k + zero) ps (none-rest page k (k + zero) x ps none) (omega arith))
     ∙ (found_or-none (found_in page (running_of (k, p'))) ∙ ap (λ n. found_in page (running_of (n, p'))) (sym number)))
 found_from-sole page k (suc i) (x ∷ ps) p p' here none =
     let number : k + suc i ≡ k + 1 + i = omega arith in
     let rest : NoneBut page (k + 1) (k + 1 + i) ps =
     λ b q there apart. none-rest page k (k + suc i) x ps none b q there (λ e. apart (e ∙ number)) in
     found_from-first page k x (slice_set ps i p')
-    ∙ (ap (λ o. found_or o (found_from page (k + 1) (slice_set ps i p'))) (none-first page k (k + suc i) x ps none (λ e. absurd (omega arith)))
+    ∙ (ap (λ o. found_or o (found_from page (k + 1) (slice_set ps i p')))
+    (none-first page k (k + suc i) x ps none (λ e. absurd (omega arith)))
     ∙ (found_from-sole page (k + 1) i ps p p' here rest ∙ ap (λ n. found_in page (running_of (n, p'))) (sym number)))
 
 pub session_on-sole :

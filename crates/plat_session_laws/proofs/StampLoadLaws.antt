@@ -1,5 +1,6 @@
 -- the load of a stamp keeps the invariant: a frame is sought, or the row is fixed at once
-use Rattle.std.specs.Prelude.{◌≡◌, ℕ, zero, suc, ◌+◌, ◌<◌, ◌≤◌, ◌&&◌, not, nat_lt, if◌then◌else◌, Bool, true, false, List, [], ◌∷◌, length, Option, Some, None, is_some, IsTrue}
+use Rattle.std.specs.Prelude.{◌≡◌, ℕ, zero, suc, ◌+◌, ◌<◌, ◌≤◌, ◌&&◌, not, nat_lt, if◌then◌else◌, Bool, true, false, List, [], ◌∷◌, length}
+use Rattle.std.specs.Prelude.{Option, Some, None, is_some, IsTrue}
 use Rattle.std.proofs.Common.{refl, ap, sym, ◌∙◌, inl, inr, arith, subst}
 use Rattle.std.specs.List.{fold, range_with_len}
 use Rattle.std.specs.Option.{option_map_or}
@@ -22,12 +23,13 @@ use Rattle.plat_laws.specs.Guests.{IsWithinLimits}
 use Rattle.plat_words.proofs.Numbers.{last_read-word, seq_read-word}
 use Rattle.plat_events.specs.Words.{dir_read, is_locked, last_read, seq_read, stamp_word}
 use Rattle.plat_events.specs.Places.{entry_count, is_name, is_word}
-use Rattle.plat_events.specs.Sessions.{Stamp, Phase, Session, Stamping, Seeking, Returning, insert_near, by_distance, tried, seek_from, with_frame_got, phase_after, with_phase}
+use Rattle.plat_events.specs.Sessions.{Stamp, Phase, Session, Stamping, Seeking, Returning, insert_near, by_distance, tried, seek_from}
+use Rattle.plat_events.specs.Sessions.{with_frame_got, phase_after, with_phase}
 use Rattle.plat_events.specs.Privates.{InSession, Private, actor_count}
 use Rattle.plat_events.specs.Events.{at}
 use Rattle.plat_events.specs.Standings.{stamp_of, hand_of, is_quiet, posts_of, removes_by, saw_no_frame, word_copied, words_filled}
 use Rattle.plat_events.specs.Kept.{Running, session_on, session_of, word_at, private_of}
-use Rattle.plat_events.specs.Views.{session_view, session_viewed, place_view, page_view, translation_of, view_of, held_view, view}
+use Rattle.plat_events.specs.Views.{session_view, place_view, page_view, translation_of, view_of, held_view}
 use Rattle.plat_events.specs.Runs.{Fine, event}
 use Rattle.plat_events.specs.Shown.{kind_for, stamp_by, IsReachedAlone, Shows}
 use Rattle.plat_local_laws.specs.Phases.{SessionOk}
@@ -42,7 +44,8 @@ use Rattle.plat_frame_laws.proofs.StartPhaseLaws.{start-seek_from}
 use Rattle.plat_frame_laws.proofs.SessionHereLaws.{here, session, reached-session}
 use Rattle.plat_session_laws.specs.OnePage.{ActorGoes, SessionGoes, ViewOk}
 use Rattle.plat_session_laws.proofs.SessionGoesLaws.{shows-going}
-use Rattle.plat_session_laws.proofs.UnpostedLaws.{start-stamping, unposted-start, turned-views}
+use Rattle.plat_frame_laws.proofs.StartPhaseLaws.{start-stamping}
+use Rattle.plat_session_laws.proofs.UnpostedLaws.{unposted-start, given-way}
 use Rattle.plat_session_laws.proofs.SteadyLaws.{steady-goes, steady-session}
 use Rattle.plat_session_laws.proofs.BeginLaws.{unstamped-stamp}
 use Rattle.plat_session_laws.proofs.SeqLaws.{seq-room}
@@ -73,7 +76,8 @@ seek-saw :
     (m : Machine) (answer : Answer) (a now : ℕ) (x : Session) (st : Stamp) → IsActor m a → is_empty x.dir.state ≡ true →
     saw_no_frame m a (seek_from m answer a now x st 0) ≡ false
 seek-saw m answer a now x st actor empty =
-    ap (λ e. saw_no_frame m a (if nat_lt 0 (length (tried m answer a now x st)) then Seeking st 0 else if e then Returning else with_frame_got m answer a now x st None)) empty
+    ap (λ e. saw_no_frame m a (if nat_lt 0 (length (tried m answer a now x st)) then Seeking st 0 else if e then Returning
+    else with_frame_got m answer a now x st None)) empty
     ∙ by (nat_lt 0 (length (tried m answer a now x st))) refl actor
   where
     by :
@@ -83,7 +87,8 @@ seek-saw m answer a now x st actor empty =
     by false some (inr daemon) = ap not (eq-eqb a m.nodes daemon)
     by false some (inl node) =
         let all : length (tried m answer a now x st) ≡ length (by_distance m a) =
-        ap (λ e. length (if e then by_distance m a else if asks x.fault.cause x.dir a && same_verdict (answer x.dir st.last now) verdict.Move then a ∷ [] else []))
+        ap (λ e. length (if e then by_distance m a else if asks x.fault.cause x.dir a
+        && same_verdict (answer x.dir st.last now) verdict.Move then a ∷ [] else []))
         empty in
         let least = some-module m a m.nodes node in
         absurd (true≢false (sym (lt-ltb 0 (length (tried m answer a now x st)) (omega (arith, all, least))) ∙ some))
@@ -213,26 +218,9 @@ module _ (m : Machine) (answer : Answer) (s : Fine) (a : ℕ) (x : Session) (lim
       (place_view m (private_of m s q) e) (page_view m s (page_of m e) (translation_of m s q e)))
       (held_view m s q e)
   views q e node below there =
-      turned-views q (translation_of m s q e) (word_at m s (word.Cmap e)) (session_viewed m answer q e (translation_of m s q e) r)
-      (session_viewed m answer q e (translation_of m s q e) goes_on) (place_view m (private_of m s q) e) (page_view m s (page_of m e) (translation_of m s q e)) (held_view m s q e)
+      given-way m answer s q e (Some r) (Some goes_on) shows node below (ap (session_on s.privates) there ∙ on)
       (unposted-start m answer a p.now x st None x.phase from q e (translation_of m s q e))
       (unposted-start m answer a p.now x st None next to q e (translation_of m s q e))
-      (subst (λ v. ViewOk v (held_view m s q e)) seen
-      (record {
-        ok = shows.views q e node below;
-        waits = shows.invalidates_stay q e node below;
-        held = shows.held_is_pmap q e node below;
-      }))
-    where
-      seen :
-          view m answer s q e
-          ≡ view_of q (translation_of m s q e) (word_at m s (word.Cmap e)) (session_viewed m answer q e (translation_of m s q e) r)
-          (place_view m (private_of m s q) e) (page_view m s (page_of m e) (translation_of m s q e))
-      seen =
-          ap
-          (λ o. view_of q (translation_of m s q e) (word_at m s (word.Cmap e)) (session_view m answer q e (translation_of m s q e) o)
-          (place_view m (private_of m s q) e) (page_view m s (page_of m e) (translation_of m s q e)))
-          (ap (session_on s.privates) there ∙ on)
 
   goes : ActorGoes m a p after None page
   goes =

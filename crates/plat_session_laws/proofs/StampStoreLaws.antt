@@ -5,6 +5,7 @@ use Rattle.std.specs.Option.{option_map_or}
 use Rattle.std.proofs.lemmas.Bool.{eq-eqb, ne_eqb}
 use Rattle.std.proofs.lemmas.Bool.Decides.{nat_tests}
 use Rattle.std.proofs.lemmas.Nat.{mul-le}
+use Rattle.std.proofs.Math.Bool.{and-false}
 use Rattle.plat_base.specs.Verdicts.{Answer}
 use Rattle.plat_base.specs.Machine.{Machine}
 use Rattle.plat_base.specs.Pages.{page_of}
@@ -17,12 +18,14 @@ use Rattle.plat_laws.proofs.Limits.{nodes-most, budget-most}
 use Rattle.plat_words.proofs.Numbers.{is_stamp_word-word}
 use Rattle.plat_events.specs.Words.{last_number, stamp_word}
 use Rattle.plat_events.specs.Places.{entry_count, is_name, is_word, most_changes}
-use Rattle.plat_events.specs.Sessions.{Fault, Course, Phase, Session, Storing, Granting, Unlocking, decision_of, last_stored, phase_after, with_phase}
+use Rattle.plat_events.specs.Sessions.{Fault, Course, Phase, Session, Storing, Granting, Unlocking, decision_of, last_stored, phase_after}
+use Rattle.plat_events.specs.Sessions.{with_phase}
 use Rattle.plat_events.specs.Privates.{InSession, Private, actor_count}
 use Rattle.plat_events.specs.Events.{at}
 use Rattle.plat_events.specs.Standings.{is_stamped, unlocking_of}
 use Rattle.plat_events.specs.Kept.{Running, session_on, session_of, word_at, private_of}
-use Rattle.plat_events.specs.Views.{EntryOk, HeldOk, InvalidateStays, SessionView, PlaceView, PageView, session_view, session_viewed, place_view, page_view, translation_of, view_of, held_view, view}
+use Rattle.plat_events.specs.Views.{EntryOk, HeldOk, InvalidateStays, SessionView, PlaceView, PageView, session_view, session_viewed}
+use Rattle.plat_events.specs.Views.{place_view, page_view, translation_of, view_of, held_view, view}
 use Rattle.plat_events.specs.Runs.{Fine, event}
 use Rattle.plat_events.specs.Shown.{stamp_by, IsReachedAlone, Shows}
 use Rattle.plat_local_laws.specs.Phases.{PhaseOk, StoringOk, SessionOk}
@@ -41,17 +44,14 @@ use Rattle.plat_session_laws.proofs.SteadyLaws.{steady-goes, steady-session}
 use Rattle.plat_session_laws.proofs.SeqLaws.{seq-room}
 use Rattle.plat_session_laws.proofs.LastLaws.{last-storing, last-granting, last-unlocking, last-continues, last-goes, stamped-by}
 
-and_no : (b : Bool) → (b && false) ≡ false
-and_no true = refl
-and_no false = refl
-
 -- behind the store
 record Stored (m : Machine) (a : ℕ) (fault : Fault) (c : Course) (ph : Phase) : Type 0 where
   last : LastPhase m a c ph
   stamped : is_stamped ph ≡ true
   grants : (e : ℕ) → option_map_or (λ (d : Course). option_map_or (λ y. y == e) fault.entry false) (unlocking_of ph) false ≡ false
 
-stored-next : (m : Machine) (a : ℕ) (fault : Fault) (c : Course) (daemon : Bool) → (daemon ≡ true → fault.entry ≡ None) → Stored m a fault c (if daemon then Unlocking c else Granting c)
+stored-next : (m : Machine) (a : ℕ) (fault : Fault) (c : Course) (daemon : Bool) → (daemon ≡ true → fault.entry ≡ None) →
+    Stored m a fault c (if daemon then Unlocking c else Granting c)
 stored-next m a fault c true thaw = record {
   last = last-unlocking m a c;
   stamped = refl;
@@ -66,7 +66,8 @@ last_small true now most last early old = omega arith
 last_small false now most None early old = omega arith
 last_small false now most (Some tick) early old = let below = old tick refl in omega arith
 
-module _ (m : Machine) (answer : Answer) (s : Fine) (a : ℕ) (x : Session) (c : Course) (limits : IsWithinLimits m) (shows : Shows m answer s)
+module _ (m : Machine) (answer : Answer) (s : Fine) (a : ℕ) (x : Session) (c : Course) (limits : IsWithinLimits m)
+    (shows : Shows m answer s)
     (within : a < actor_count m) (stands : (private_of m s a).place ≡ InSession x) (is : x.phase ≡ Storing c) where
   abbrev p : Private
   p = private_of m s a
@@ -141,11 +142,13 @@ module _ (m : Machine) (answer : Answer) (s : Fine) (a : ℕ) (x : Session) (c :
 
   ungranted-before : (q e : ℕ) (o : Option Translation) → (session_viewed m answer q e o (running a p.now x)).granted ≡ false
   ungranted-before q e o =
-      ap (λ (ph : Phase). a == q && option_map_or (λ (d : Course). option_map_or (λ y. y == e) x.fault.entry false) (unlocking_of ph) false) is
-      ∙ and_no (a == q)
+      ap (λ (ph : Phase). a == q && option_map_or (λ (d : Course). option_map_or (λ y. y == e) x.fault.entry false) (unlocking_of ph) false)
+      is
+      ∙ and-false (a == q)
 
-  ungranted-after : (q e : ℕ) (o : Option Translation) → (session_viewed m answer q e o (running a p.now (with_phase x next))).granted ≡ false
-  ungranted-after q e o = ap (λ b. a == q && b) (to.grants e) ∙ and_no (a == q)
+  ungranted-after : (q e : ℕ) (o : Option Translation) → (session_viewed m answer q e o (running a p.now (with_phase x next))).granted
+      ≡ false
+  ungranted-after q e o = ap (λ b. a == q && b) (to.grants e) ∙ and-false (a == q)
 
   module _ (q e : ℕ) where
     abbrev o : Option Translation
@@ -196,10 +199,17 @@ module _ (m : Machine) (answer : Answer) (s : Fine) (a : ℕ) (x : Session) (c :
       let past = shows.times_past a within in let time = time-most in omega (arith, past, time) in
       let small = last_small decided.sets_last p.now (m.nodes * m.budget) c.stamp.last early storing.quiet.course.stamp.last in
       is_stamp_word-word m (last_stored decided p.now c.stamp.last) (c.stamp.seq + 1) small
-      (omega (arith, small, nodes-most m limits, budget-most m limits, mul-le m.nodes m.budget 8 65536 (nodes-most m limits) (budget-most m limits))) room
+      (omega (
+        arith,
+        small,
+        nodes-most m limits,
+        budget-most m limits,
+        mul-le m.nodes m.budget 8 65536 (nodes-most m limits) (budget-most m limits),
+      )) room
     where
       time-most : word_at m s word.Time ≤ m.nodes * m.budget
-      time-most = let within_time : IsTrue (is_word m word.Time (word_at m s word.Time)) = shows.words_encoded word.Time refl in grind (arith, nat_tests)
+      time-most = let within_time : IsTrue (is_word m word.Time (word_at m s word.Time)) = shows.words_encoded word.Time refl in
+          grind (arith, nat_tests)
 
   room : c.stamp.seq + 1 ≤ most_changes
   room =
@@ -209,7 +219,8 @@ module _ (m : Machine) (answer : Answer) (s : Fine) (a : ℕ) (x : Session) (c :
   pub keeps_stamp_store : Shows m answer (event m answer s a)
   keeps_stamp_store =
       shows-going m answer s t a (word.Stamp page) number after page limits shows within changes named (eq-eqb page page refl) goes-steady
-      (λ y there. sole y (sym on ∙ there)) refl (λ e h. absurd cc) (Some (running a p.now x)) (Some (running a p.now (with_phase x next))) on
+      (λ y there. sole y (sym on ∙ there)) refl (λ e h. absurd cc) (Some (running a p.now x)) (Some (running a p.now (with_phase x next)))
+      on
       refl owes inside views (encoded room) reached
     where
       sole : (y : Running) → Some (running a p.now x) ≡ Some y → y.actor ≡ a

@@ -1,5 +1,6 @@
 -- the times of changes fit 32 bits, in every state with the invariant
-use Rattle.std.specs.Prelude.{◌≡◌, ℕ, ◌+◌, ◌*◌, ◌<◌, ◌≤◌, ◌==◌, nat_lt, if◌then◌else◌, Bool, true, false, List, [], ◌∷◌, ◌++◌, cond, Option, Some, None}
+use Rattle.std.specs.Prelude.{◌≡◌, ℕ, ◌+◌, ◌*◌, ◌<◌, ◌≤◌, ◌==◌, nat_lt, if◌then◌else◌, Bool, true, false, List, [], ◌∷◌, ◌++◌, cond, Option}
+use Rattle.std.specs.Prelude.{Some, None}
 use Rattle.std.proofs.Common.{refl, arith, subst}
 use Rattle.std.specs.List.{fold, list_all}
 use Rattle.std.specs.Option.{option_map_or}
@@ -18,15 +19,18 @@ use Rattle.plat_base.specs.declared.items.Removed.{Removed}
 use Rattle.plat_laws.specs.Guests.{IsWithinLimits}
 use Rattle.plat_laws.proofs.Limits.{nodes-most, budget-most}
 use Rattle.plat_events.specs.Words.{last_number}
-use Rattle.plat_events.specs.Sessions.{Stamping, Seeking, Taking, Returning, Shooting, Filling, Reading, Copying, Giving, Storing, Granting, Unlocking, Session, Phase}
-use Rattle.plat_events.specs.Privates.{Place, Polling, Looking, Applying, Ticking, Switching, Loading, Expecting, Exchanging, Locking, InSession, Leaving, Lessening, Gone, LiveLooking, TimeLooking, Over, Private, actor_count}
-use Rattle.plat_events.specs.Events.{named_next, is_followed, moved_at, session_moved, turn_does, drop_own, page_done, item_at, session_item, with_item}
+use Rattle.plat_events.specs.Sessions.{Stamping, Seeking, Taking, Returning, Shooting, Filling, Reading, Copying, Giving, Storing, Granting}
+use Rattle.plat_events.specs.Sessions.{Unlocking, Session, Phase}
+use Rattle.plat_events.specs.Privates.{Place, Polling, Looking, Applying, Ticking, Switching, Loading, Expecting, Exchanging, Locking}
+use Rattle.plat_events.specs.Privates.{InSession, Leaving, Lessening, Gone, LiveLooking, TimeLooking, Over, Private, actor_count}
+use Rattle.plat_events.specs.Events.{named_next, is_followed, moved_at, session_moved, turn_does, drop_own, page_done, item_at}
+use Rattle.plat_events.specs.Events.{session_item, with_item}
 use Rattle.plat_events.specs.Kept.{private_of}
 use Rattle.plat_events.specs.Runs.{Fine, ends_of}
 use Rattle.plat_events.specs.Shown.{actor_of, items_by, IsReachedAlone, Shows}
 use Rattle.plat_local_laws.proofs.AloneLaws.{IsKept, alone-keeps}
-use Rattle.plat_fine_laws.proofs.GoodLaws.{good-items}
 use Rattle.plat_session_laws.proofs.SeqLaws.{is_within, changes-within}
+use Rattle.plat_laws.proofs.HistoryLaws.{good-items}
 
 -- ---- the tick that an actor knows
 
@@ -49,7 +53,8 @@ drop-now p rem (Some e) = refl
 done-now : (m : Machine) (p : Private) (page : ℕ) → (page_done m p page).now ≡ p.now
 done-now m p page = if-now (nat_lt (page + 1) m.pages) _ _ p.now refl refl
 
-session-now : (m : Machine) (answer : Answer) (a : ℕ) (p : Private) (n : ℕ) (x : Session) (ph : Phase) → (session_moved m answer a p n x ph).now ≡ p.now
+session-now : (m : Machine) (answer : Answer) (a : ℕ) (p : Private) (n : ℕ) (x : Session) (ph : Phase) →
+    (session_moved m answer a p n x ph).now ≡ p.now
 session-now m answer a p n x Stamping = refl
 session-now m answer a p n x (Seeking st i) = refl
 session-now m answer a p n x (Taking st i seen) = refl
@@ -144,7 +149,8 @@ item-timely m answer a p n LiveLooking small = refl
 item-timely m answer a p n TimeLooking small = refl
 item-timely m answer a p n Over small = refl
 
-all-more : (items : List Item) (i : Item) → list_all is_timely items ≡ true → is_timely i ≡ true → list_all is_timely (items ++ i ∷ []) ≡ true
+all-more : (items : List Item) (i : Item) → list_all is_timely items ≡ true → is_timely i ≡ true → list_all is_timely (items ++ i ∷ [])
+    ≡ true
 all-more [] i all small = rw small refl
 all-more (x ∷ xs) i all small =
     let parts = and_parts (is_timely x) (list_all is_timely xs) all in rw (parts.0) (all-more xs i parts.1 small)
@@ -156,9 +162,11 @@ timely-more items None all small = all
 timely-more items (Some i) all small = all-more items i all small
 
 journal-timely :
-    (m : Machine) (answer : Answer) (a : ℕ) (p : Private) → IsWithinLimits m → IsReachedAlone m answer a p → list_all is_timely p.journal ≡ true
+    (m : Machine) (answer : Answer) (a : ℕ) (p : Private) → IsWithinLimits m → IsReachedAlone m answer a p →
+    list_all is_timely p.journal ≡ true
 journal-timely m answer a p limits reached =
-    (alone-keeps m answer a (λ (q : Private). (q.now < 4294967295) × (list_all is_timely q.journal ≡ true)) kept (omega arith, refl) p reached).1
+    (alone-keeps m answer a (λ (q : Private). (q.now < 4294967295) × (list_all is_timely q.journal ≡ true)) kept (omega arith, refl) p
+    reached).1
   where
     kept : IsKept m answer a (λ (q : Private). (q.now < 4294967295) × (list_all is_timely q.journal ≡ true))
     kept q n found so_far = (
@@ -177,11 +185,13 @@ timely-by n (i ∷ is) known each =
     rw (first i parts.0 (λ below. own (actor_of i == actor_of i) (eq-eqb (actor_of i) (actor_of i) refl) (each (actor_of i) below)))
     (timely-by n is parts.1 (λ b below. rest b (actor_of i == b) (each b below)))
   where
-    rest : (b : ℕ) (same : Bool) → list_all is_timely (cond same (i ∷ items_by b is) (items_by b is)) ≡ true → list_all is_timely (items_by b is) ≡ true
+    rest : (b : ℕ) (same : Bool) → list_all is_timely (cond same (i ∷ items_by b is) (items_by b is)) ≡ true →
+        list_all is_timely (items_by b is) ≡ true
     rest b true all = (and_parts (is_timely i) (list_all is_timely (items_by b is)) all).1
     rest b false all = all
 
-    own : (same : Bool) → same ≡ true → list_all is_timely (cond same (i ∷ items_by (actor_of i) is) (items_by (actor_of i) is)) ≡ true → is_timely i ≡ true
+    own : (same : Bool) → same ≡ true → list_all is_timely (cond same (i ∷ items_by (actor_of i) is) (items_by (actor_of i) is)) ≡ true →
+        is_timely i ≡ true
     own true h all = (and_parts (is_timely i) (list_all is_timely (items_by (actor_of i) is)) all).0
     own false h all = absurd cc
 
@@ -215,7 +225,8 @@ last-small page last (item.Switch x ∷ is) all small = last-small page last is 
 
 -- the tick of a page's last invalidation fits its stamp
 pub last-fits :
-    (m : Machine) (answer : Answer) (s : Fine) (page : ℕ) → IsWithinLimits m → Shows m answer s → last_number (last_of s.history page) < 4294967296
+    (m : Machine) (answer : Answer) (s : Fine) (page : ℕ) → IsWithinLimits m → Shows m answer s →
+    last_number (last_of s.history page) < 4294967296
 last-fits m answer s page limits shows =
     last-small page None s.history
     (timely-by (actor_count m) s.history

@@ -46,7 +46,8 @@ pub record Decides (m : Machine) (d : Decision) : Type 0 where
   pub dir : IsTrue (is_dir m d.after)
   pub sets : d.sets_last ≡ sets_last d.action
 
-module _ (m : Machine) (answer : Answer) (s : Fine) (a : ℕ) (x : Session) (c : Course) (limits : IsWithinLimits m) (shows : Shows m answer s)
+module _ (m : Machine) (answer : Answer) (s : Fine) (a : ℕ) (x : Session) (c : Course) (limits : IsWithinLimits m)
+    (shows : Shows m answer s)
     (within : a < actor_count m) (stands : (private_of m s a).place ≡ InSession x) (is : x.phase ≡ Unlocking c) where
   abbrev p : Private
   p = private_of m s a
@@ -143,10 +144,12 @@ module _ (m : Machine) (answer : Answer) (s : Fine) (a : ℕ) (x : Session) (c :
   unlock-stamp =
       let last : last_of t.history page ≡ last_stored unlock-decision p.now (last_of s.history page) =
       ap (λ h. last_of h page) unlock-changes.history
-      ∙ (own-last s.history unlock-change page refl ∙ ap (λ b. if b then Some p.now else last_of s.history page) (sym unlock-decides.sets)) in
+      ∙ (own-last s.history unlock-change page refl
+      ∙ ap (λ b. if b then Some p.now else last_of s.history page) (sym unlock-decides.sets)) in
       let seq : seq_of t.history page ≡ seq_of s.history page + 1 =
       ap (λ h. seq_of h page) unlock-changes.history ∙ own-seq s.history unlock-change page refl in
-      word_at-other m s t a (word.Dir page) number unlock-after (Some (item.Change unlock-change)) unlock-changes (word.Stamp page) unlock-named
+      word_at-other m s t a (word.Dir page) number unlock-after (Some (item.Change unlock-change)) unlock-changes (word.Stamp page)
+      unlock-named
       stamp-named (λ e. absurd cc)
       ∙ (shows.stamp_is_history page unlock-inside
       ∙ (ap (stamp_by m answer s.history page) unlock-on

@@ -1,6 +1,6 @@
 -- the unlock with a change leaves all other pages, and what it leaves of its actor
 use Rattle.std.specs.Prelude.{◌≡◌, ℕ, ◌+◌, ◌==◌, nat_lt, if◌then◌else◌, Bool, true, false, List, map, Option, Some, None}
-use Rattle.std.proofs.Common.{refl, ap, sym, ◌∙◌}
+use Rattle.std.proofs.Common.{refl, ap, sym, ◌∙◌, arith}
 use Rattle.std.specs.Option.{option_map_or}
 use Rattle.plat_base.specs.Verdicts.{Answer}
 use Rattle.plat_base.specs.Machine.{Machine}
@@ -38,32 +38,28 @@ module _ (m : Machine) (p : Private) (journal : List Item) where
   abbrev with_journal : Private → Private
   with_journal q = record q { journal = journal }
 
-  done-unlocks : (page : ℕ) (more : Bool) (due : ℕ) (next : Place) → IsSteady m (with_journal (at p next)) → session_of next ≡ None → goes_to next ≡ None →
+  done-unlocks : (page : ℕ) (more : Bool) (due : ℕ) (next : Place) → IsSteady m (with_journal (at p next)) → session_of next ≡ None →
+      goes_to next ≡ None →
       Unlocks m p (with_journal (if more then at p next else record p { due = due; place = LiveLooking }))
   done-unlocks page true due next steady none on =
       record { steady = steady; turns = refl; now = refl; space = refl; pmap = refl; session = none; goes = on }
-  done-unlocks page false due next steady none on = record {
-    steady = record { over = refl; left = refl; ended = refl; scan = refl; message = refl };
-    turns = refl;
-    now = refl;
-    space = refl;
-    pmap = refl;
-    session = refl;
-    goes = refl;
-  }
+  done-unlocks page false due next steady none on = search arith
 
-  either : (b : Bool) (x y : Private) → Unlocks m p (with_journal x) → Unlocks m p (with_journal y) → Unlocks m p (with_journal (if b then x else y))
+  either : (b : Bool) (x y : Private) → Unlocks m p (with_journal x) → Unlocks m p (with_journal y) →
+      Unlocks m p (with_journal (if b then x else y))
   either true x y hx hy = hx
   either false x y hx hy = hy
 
   done-page : (page : ℕ) → Unlocks m p (with_journal (page_done m p page))
   done-page page =
-      done-unlocks page (nat_lt (page + 1) m.pages) _ (Locking _) (record { over = refl; left = refl; ended = refl; scan = refl; message = refl })
+      done-unlocks page (nat_lt (page + 1) m.pages) _ (Locking _)
+      (record { over = refl; left = refl; ended = refl; scan = refl; message = refl })
       refl refl
 
   -- a look-up leads to an access or to a lock
   looks-if :
-      (q : Private) (b c : Bool) (x y z : Place) (atc : List (Option CachePlace)) → Unlocks m p (with_journal (record q { atc = atc; place = x })) →
+      (q : Private) (b c : Bool) (x y z : Place) (atc : List (Option CachePlace)) →
+      Unlocks m p (with_journal (record q { atc = atc; place = x })) →
       Unlocks m p (with_journal (record q { atc = atc; place = y })) → Unlocks m p (with_journal (record q { atc = atc; place = z })) →
       Unlocks m p (with_journal (record q { atc = atc; place = if b then if c then x else y else z }))
   looks-if q true true x y z atc hx hy hz = hx
@@ -75,33 +71,7 @@ module _ (m : Machine) (p : Private) (journal : List Item) where
       looks-if (record p { atc = atc }) (has_right r.kind (translation_at p (entry_of m r))) (is_write r.kind) Expecting Loading
       (Locking (record { page = r.page; entry = Some (entry_of m r); cause = cause_of r.kind }))
       (if has_right r.kind (translation_at p (entry_of m r)) then places_filled m atc r else atc)
-      (record {
-        steady = record { over = refl; left = refl; ended = refl; scan = refl; message = refl };
-        turns = refl;
-        now = refl;
-        space = refl;
-        pmap = refl;
-        session = refl;
-        goes = refl;
-      })
-      (record {
-        steady = record { over = refl; left = refl; ended = refl; scan = refl; message = refl };
-        turns = refl;
-        now = refl;
-        space = refl;
-        pmap = refl;
-        session = refl;
-        goes = refl;
-      })
-      (record {
-        steady = record { over = refl; left = refl; ended = refl; scan = refl; message = refl };
-        turns = refl;
-        now = refl;
-        space = refl;
-        pmap = refl;
-        session = refl;
-        goes = refl;
-      })
+      (search arith) (search arith) (search arith)
 
 pub unlocks :
     (m : Machine) (answer : Answer) (a : ℕ) (p : Private) (x : Session) (c : Course) (journal : List Item) →
@@ -121,9 +91,14 @@ pub unlock-goes :
     (Some (item.Change (change_made m answer a p.now x c))) x.fault.page
 unlock-goes m answer a p x c stands =
     let ends = unlocks m answer a p x c (with_item p.journal (Some (item.Change (change_made m answer a p.now x c)))) in
-    steady-goes m a p (record (unlocked m answer a p x c) { journal = with_item p.journal (Some (item.Change (change_made m answer a p.now x c))) })
-    (Some (item.Change (change_made m answer a p.now x c))) x.fault.page (steady-session m p x stands) ends.steady ends.turns ends.now ends.space
-    refl own (λ enough e. absurd (no-end ends.goes e)) (λ y e. was-on y (sym (ap session_of stands) ∙ e)) (λ y e. absurd (no-session ends.session e))
+    steady-goes m a p (record (unlocked m answer a p x c) {
+      journal =
+          with_item p.journal (Some (item.Change (change_made m answer a p.now x c)));
+    })
+    (Some (item.Change (change_made m answer a p.now x c))) x.fault.page (steady-session m p x stands) ends.steady ends.turns ends.now
+    ends.space
+    refl own (λ enough e. absurd (no-end ends.goes e)) (λ y e. was-on y (sym (ap session_of stands) ∙ e))
+    (λ y e. absurd (no-session ends.session e))
   where
     own : IsBy a (Some (item.Change (change_made m answer a p.now x c)))
     own i e = ap (λ o. option_map_or actor_of o a) (sym e)

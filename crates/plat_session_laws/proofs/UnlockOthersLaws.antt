@@ -1,5 +1,6 @@
 -- the unlock with a change leaves all other pages
-use Rattle.std.specs.Prelude.{◌≡◌, ◌≢◌, ◌⊎◌, ℕ, ◌<◌, ◌==◌, if◌then◌else◌, Bool, true, false, List, [], ◌∷◌, ◌++◌, Option, Some, None, slice_index_or}
+use Rattle.std.specs.Prelude.{◌≡◌, ◌≢◌, ◌⊎◌, ℕ, ◌<◌, ◌==◌, if◌then◌else◌, Bool, true, false, List, [], ◌∷◌, ◌++◌, Option, Some, None}
+use Rattle.std.specs.Prelude.{slice_index_or}
 use Rattle.std.proofs.Common.{refl, ap, sym, ◌∙◌, inl, inr, arith}
 use Rattle.std.specs.Option.{option_map, option_map_or}
 use Rattle.std.proofs.lemmas.Bool.{cases_eq, eq-eqb, ne_eqb}
@@ -47,9 +48,11 @@ pub held-apart :
     ((t : Option Translation) → granted_to e c.seq c.granted t ≡ t) → held m (items ++ item.Change c ∷ []) q e ≡ held m items q e
 held-apart m items c q e apart grants = held-change m items c q e ∙ by (c.actor == q)
   where
-    still : granted_to e c.seq c.granted (if page_of m e == c.page then kept_of c.removed (held m items q e) else held m items q e) ≡ held m items q e
+    still : granted_to e c.seq c.granted (if page_of m e == c.page then kept_of c.removed (held m items q e) else held m items q e)
+        ≡ held m items q e
     still =
-        ap (λ b. granted_to e c.seq c.granted (if b then kept_of c.removed (held m items q e) else held m items q e)) (ne_eqb (page_of m e) c.page apart)
+        ap (λ b. granted_to e c.seq c.granted (if b then kept_of c.removed (held m items q e) else held m items q e))
+        (ne_eqb (page_of m e) c.page apart)
         ∙ grants (held m items q e)
 
     by :
@@ -60,7 +63,8 @@ held-apart m items c q e apart grants = held-change m items c q e ∙ by (c.acto
     by true = still
     by false = refl
 
-module _ (m : Machine) (answer : Answer) (s : Fine) (a : ℕ) (x : Session) (c : Course) (limits : IsWithinLimits m) (shows : Shows m answer s)
+module _ (m : Machine) (answer : Answer) (s : Fine) (a : ℕ) (x : Session) (c : Course) (limits : IsWithinLimits m)
+    (shows : Shows m answer s)
     (within : a < actor_count m) (stands : (private_of m s a).place ≡ InSession x) (is : x.phase ≡ Unlocking c) where
   abbrev p : Private
   p = private_of m s a
@@ -104,7 +108,11 @@ module _ (m : Machine) (answer : Answer) (s : Fine) (a : ℕ) (x : Session) (c :
           granted_to e made.seq (option_map (λ k. grant_of k x.fault.cause (decision_of m answer a p.now x c)) f) o ≡ o
       by None entry = refl
       by (Some f) entry =
-          ap (λ b. if b then Some (record { grant = grant_of f x.fault.cause (decision_of m answer a p.now x c); seq = made.seq; restricted = false }) else o)
+          ap (λ b. if b then Some (record {
+            grant = grant_of f x.fault.cause (decision_of m answer a p.now x c);
+            seq = made.seq;
+            restricted = false;
+          }) else o)
           (ne_eqb f e (λ h. apart (ap (page_of m) (sym h) ∙ entry-page f entry)))
 
   sole : (y : Running) → session_on s.privates page ≡ Some y → y.actor ≡ a
@@ -120,7 +128,8 @@ module _ (m : Machine) (answer : Answer) (s : Fine) (a : ℕ) (x : Session) (c :
       by (inl same) =
           rw same
           (ap (λ (y : Private). translation_at y e)
-          (private_of-new m s t a _ _ _ _ (unlock-changes m answer s a x c limits shows within stands is) (omega (arith, shows.all_privates)))
+          (private_of-new m s t a _ _ _ _ (unlock-changes m answer s a x c limits shows within stands is)
+          (omega (arith, shows.all_privates)))
           ∙ ap (λ l. slice_index_or l e None) (unlocks m answer a p x c (with_item p.journal (Some (item.Change made)))).pmap)
       by (inr other) =
           ap (λ (y : Private). translation_at y e)

@@ -1,96 +1,44 @@
 -- sessions before their first post: how a processor and an entry see them begin, go on and end
-use Rattle.std.specs.Prelude.{ℕ, ◌==◌, ◌&&◌, List, [], ◌∷◌, length, take, Option, Some, None}
-use Rattle.std.proofs.Common.{◌≡◌, Bool, true, false, arith, refl, ap, sym, ◌∙◌}
-use Rattle.std.specs.List.{list_any, flat_map, zip}
+use Rattle.std.specs.Prelude.{ℕ, ◌<◌, ◌==◌, ◌&&◌, Option}
+use Rattle.std.proofs.Common.{◌≡◌, Bool, false, arith, refl, ap, sym, ◌∙◌, subst}
 use Rattle.std.specs.Option.{option_map_or}
+use Rattle.std.proofs.Math.Bool.{and-false}
 use Rattle.plat_base.specs.Verdicts.{Answer}
 use Rattle.plat_base.specs.Machine.{Machine}
-use Rattle.plat_base.specs.Pages.{entries_of_page}
-use Rattle.plat_base.specs.Messages.{removes_some}
+use Rattle.plat_base.specs.Pages.{page_of}
 use Rattle.plat_base.specs.declared.frames.Frame.{Frame}
 use Rattle.plat_base.specs.declared.items.Removed.{Removed}
 use Rattle.plat_base.specs.declared.items.Translation.{Translation}
-use Rattle.plat_events.specs.Shootdowns.{Target, targets, targets_of}
-use Rattle.plat_events.specs.Sessions.{Stamp, Course, Phase, Stamping, Returning, Session, translation_made, with_phase}
-use Rattle.plat_events.specs.Standings.{posts_of, removes_by, has_given, has_posted, waits_for}
-use Rattle.plat_events.specs.Views.{View, Whose, SessionView, PlaceView, PageView, EntryOk, HeldView, HeldOk, no_session, session_viewed, same_translation, view_of}
+use Rattle.plat_base.specs.declared.words.WordName.TheVariants as word
+use Rattle.plat_events.specs.Places.{entry_count}
+use Rattle.plat_events.specs.Sessions.{Stamp, Course, Phase, Session, translation_made, with_phase}
+use Rattle.plat_events.specs.Kept.{Running, session_on, word_at, private_of}
+use Rattle.plat_events.specs.Views.{View, Whose, SessionView, PlaceView, PageView, EntryOk, HeldView, HeldOk, no_session, session_viewed}
+use Rattle.plat_events.specs.Views.{same_translation, view_of, session_view, held_view, place_view, page_view, translation_of}
+use Rattle.plat_events.specs.Runs.{Fine}
+use Rattle.plat_events.specs.Shown.{Shows}
 use Rattle.plat_frame_laws.specs.Phased.{running}
 use Rattle.plat_frame_laws.specs.StartPhases.{StartPhase}
+use Rattle.plat_frame_laws.proofs.StartGoesLaws.{unposted, unowed, ungiven}
 use Rattle.plat_session_laws.specs.OnePage.{IsUnposted, ViewOk}
-
-and_none : (b : Bool) → (b && false) ≡ false
-and_none true = refl
-and_none false = refl
-
-no_targets : (m : Machine) (a : ℕ) (es : List ℕ) → flat_map (λ (x : ℕ × ℕ). targets_of m a x.0 x.1) (zip es []) ≡ []
-no_targets m a [] = refl
-no_targets m a (e ∷ es) = refl
 
 pub unposted-none : IsUnposted no_session
 unposted-none = record { posted = refl; owed = refl; granted = refl; given = refl; mine = refl }
 
--- ---- the first phases
-
-module _ (m : Machine) (answer : Answer) (a now : ℕ) (x : Session) (st : Stamp) where
-  pub start-stamping : StartPhase m answer a now x st None Stamping
-  start-stamping = record {
-    stamp = λ u h. absurd cc;
-    hand = refl;
-    posts = refl;
-    left = λ ts e. refl;
-    unlocking = refl;
-    stamped = refl;
-    copied = refl;
-    given = λ f. refl;
-    filled = λ f h. absurd cc;
-    quiet = λ h removes. absurd cc;
-  }
-
-  pub start-returning : StartPhase m answer a now x st None Returning
-  start-returning = record {
-    stamp = λ u h. absurd cc;
-    hand = refl;
-    posts = refl;
-    left = λ ts e. refl;
-    unlocking = refl;
-    stamped = refl;
-    copied = refl;
-    given = λ f. refl;
-    filled = λ f h. absurd cc;
-    quiet = λ h removes. absurd cc;
-  }
-
 module _ (m : Machine) (answer : Answer) (a now : ℕ) (x : Session) (st : Stamp) (got : Option Frame) (ph : Phase)
     (is : StartPhase m answer a now x st got ph) (q e : ℕ) (t : Option Translation) where
-  unposted : has_posted m answer a now (with_phase x ph) e ≡ false
-  unposted =
-      ap
-      (λ (ps : List ℕ). removes_some (removes_by m answer a now (with_phase x ph))
-      && list_any (λ y. y == e) (take (length ps) (entries_of_page m x.fault.page)))
-      is.posts
-      ∙ and_none (removes_some (removes_by m answer a now (with_phase x ph)))
-
-  unowed : waits_for m a (with_phase x ph) e q ≡ false
-  unowed =
-      let none : targets m a x.fault.page (posts_of (with_phase x ph)) ≡ [] =
-      ap (λ (ps : List ℕ). targets m a x.fault.page ps) is.posts ∙ no_targets m a (entries_of_page m x.fault.page) in
-      ap (list_any (λ (y : Target). y.entry == e && y.processor == q)) (is.left (targets m a x.fault.page (posts_of (with_phase x ph))) none)
-
-  ungiven : (o : Option Translation) → option_map_or (λ (y : Translation). has_given m answer a now (with_phase x ph) y.grant.frame) o false ≡ false
-  ungiven None = refl
-  ungiven (Some y) = is.given y.grant.frame
-
   ungranted : (session_viewed m answer q e t (running a now (with_phase x ph))).granted ≡ false
   ungranted =
-      ap (λ (o : Option Course). a == q && option_map_or (λ (d : Course). option_map_or (λ y. y == e) x.fault.entry false) o false) is.unlocking
-      ∙ and_none (a == q)
+      ap (λ (o : Option Course). a == q && option_map_or (λ (d : Course). option_map_or (λ y. y == e) x.fault.entry false) o false)
+      is.unlocking
+      ∙ and-false (a == q)
 
   pub unposted-start : IsUnposted (session_viewed m answer q e t (running a now (with_phase x ph)))
   unposted-start = record {
-    posted = unposted;
-    owed = unowed;
+    posted = unposted m answer a now x st got ph is e;
+    owed = unowed m answer a now x st got ph is e q;
     granted = ungranted;
-    given = ungiven t;
+    given = ungiven m answer a now x st got ph is t;
     mine =
         λ i. ungranted i
         && option_map_or
@@ -109,7 +57,7 @@ turned_ok v w r b ok h0 = search arith
 turned_held : (v : View) (h : HeldView) (w : Whose) (r : Removed) (b : Bool) → HeldOk v h → v.posted ≡ false → HeldOk (turned w r b v) h
 turned_held v h w r b ok h0 = search arith
 
-pub turned-views :
+turned-views :
     (q : ℕ) (t : Option Translation) (mask : ℕ) (x y : SessionView) (pv : PlaceView) (gv : PageView) (h : HeldView) → IsUnposted x →
     IsUnposted y → ViewOk (view_of q t mask x pv gv) h → ViewOk (view_of q t mask y pv gv) h
 turned-views q t mask x y pv gv h from to view =
@@ -134,3 +82,27 @@ turned-views q t mask x y pv gv h from to view =
           mine = (to.mine ∙ sym from.mine) i;
         })
         pv gv
+
+-- so each view stays as it has to be where the session of its page, or none, gives way to another, or to none
+pub given-way :
+    (m : Machine) (answer : Answer) (s : Fine) (q e : ℕ) (old new : Option Running) → Shows m answer s → q < m.nodes → e < entry_count m →
+    session_on s.privates (page_of m e) ≡ old → IsUnposted (session_view m answer q e (translation_of m s q e) old) →
+    IsUnposted (session_view m answer q e (translation_of m s q e) new) →
+    ViewOk
+    (view_of q (translation_of m s q e) (word_at m s (word.Cmap e)) (session_view m answer q e (translation_of m s q e) new)
+    (place_view m (private_of m s q) e) (page_view m s (page_of m e) (translation_of m s q e)))
+    (held_view m s q e)
+given-way m answer s q e old new shows node below on from to =
+    turned-views q (translation_of m s q e) (word_at m s (word.Cmap e)) (session_view m answer q e (translation_of m s q e) old)
+    (session_view m answer q e (translation_of m s q e) new) (place_view m (private_of m s q) e)
+    (page_view m s (page_of m e) (translation_of m s q e)) (held_view m s q e) from to
+    (subst (λ v. ViewOk v (held_view m s q e))
+    (ap
+    (λ o. view_of q (translation_of m s q e) (word_at m s (word.Cmap e)) (session_view m answer q e (translation_of m s q e) o)
+    (place_view m (private_of m s q) e) (page_view m s (page_of m e) (translation_of m s q e)))
+    on)
+    (record {
+      ok = shows.views q e node below;
+      waits = shows.invalidates_stay q e node below;
+      held = shows.held_is_pmap q e node below;
+    }))

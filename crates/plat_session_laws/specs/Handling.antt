@@ -1,7 +1,9 @@
 -- the places whose operation locks a page, loads or stores its stamp, grants, or unlocks the page as it was
 use Rattle.std.specs.Prelude.{Bool, true, false}
-use Rattle.plat_events.specs.Sessions.{Phase, Stamping, Seeking, Taking, Returning, Shooting, Filling, Reading, Copying, Giving, Storing, Granting, Unlocking}
-use Rattle.plat_events.specs.Privates.{Place, Polling, Looking, Applying, Ticking, Switching, Loading, Expecting, Exchanging, Locking, InSession, Leaving, Lessening, Gone, LiveLooking, TimeLooking, Over}
+use Rattle.plat_events.specs.Sessions.{Phase, Stamping, Seeking, Taking, Returning, Shooting, Filling, Reading, Copying, Giving, Storing}
+use Rattle.plat_events.specs.Sessions.{Granting, Unlocking}
+use Rattle.plat_events.specs.Privates.{Place, Polling, Looking, Applying, Ticking, Switching, Loading, Expecting, Exchanging, Locking}
+use Rattle.plat_events.specs.Privates.{InSession, Leaving, Lessening, Gone, LiveLooking, TimeLooking, Over}
 
 abbrev pub phase_handles_page : Phase → Bool
 phase_handles_page Stamping = true

@@ -4,7 +4,8 @@ use Rattle.plat_base.specs.Machine.{Machine}
 use Rattle.plat_base.specs.declared.frames.Frame.{Frame}
 use Rattle.plat_events.specs.Shootdowns.{Target}
 use Rattle.plat_events.specs.Sessions.{Course, Phase}
-use Rattle.plat_events.specs.Standings.{stamp_of, course_of, is_quiet, words_filled, word_copied, targets_left, frames_given, took_farther, saw_no_frame}
+use Rattle.plat_events.specs.Standings.{stamp_of, course_of, is_quiet, words_filled, word_copied, targets_left, frames_given, took_farther}
+use Rattle.plat_events.specs.Standings.{saw_no_frame}
 
 pub record LastPhase (m : Machine) (a : ℕ) (c : Course) (ph : Phase) : Type 0 where
   pub course : course_of ph ≡ Some c

@@ -21,7 +21,8 @@ use Rattle.plat_events.specs.Privates.{Private, is_over}
 use Rattle.plat_events.specs.Events.{with_item}
 use Rattle.plat_events.specs.Standings.{stamp_of, is_quiet, words_filled, word_copied, hand_of, posts_of, removes_by, saw_no_frame}
 use Rattle.plat_events.specs.Kept.{Running, session_on, session_of, is_kept, gave_back, has_left, activation_at, message_at, word_at}
-use Rattle.plat_events.specs.Views.{EntryOk, HeldOk, InvalidateStays, View, SessionView, HeldView, view, held_view, translation_of, place_view}
+use Rattle.plat_events.specs.Views.{EntryOk, HeldOk, InvalidateStays, View, SessionView, HeldView, view, held_view, translation_of}
+use Rattle.plat_events.specs.Views.{place_view}
 use Rattle.plat_events.specs.Runs.{Fine, end_at}
 use Rattle.plat_events.specs.Shown.{goes_to, is_hand, kind_for, stamp_by, flat_word, frame_word}
 use Rattle.plat_fine_laws.specs.Changes.{IsBy, KeepsPage, KeepsFlat}

@@ -14,7 +14,8 @@ use plat_base::{Config, Policy};
 /// actor polls and locks again), the load of the page's stamp, its store, the grant of a processor's reference, and the unlock
 /// of a page that stays as it was. The unlock with a change is not among them.
 pub fn any_policy_sessions<P: Policy>(cfg: &Config, policy: &P)
-    ensures { (s : Fine) (a : ℕ) → Shows (machine cfg.now) (P.answer policy.now) s → a < actor_count (machine cfg.now)
+    ensures { (s : Fine) (a : ℕ) → Shows (machine cfg.now) (P.answer policy.now) s →
+        a < actor_count (machine cfg.now)
         → IsTrue (handles_page (private_of (machine cfg.now) s a).place)
         → Shows (machine cfg.now) (P.answer policy.now) (event (machine cfg.now) (P.answer policy.now) s a) }
 {}

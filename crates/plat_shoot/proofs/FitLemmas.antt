@@ -2,18 +2,17 @@
 use Rattle.std.proofs.Common.{◌≡◌, ℕ, ◌+◌, ◌<◌, Bool, true, false, if◌then◌else◌, List, [], ◌∷◌, ◌++◌, length, Some, refl, arith}
 use Rattle.std.specs.Prelude.{IsTrue, nat_lt, ◌==◌}
 use Rattle.std.proofs.lemmas.Bool.Decides.{nat_tests}
+use Rattle.std.proofs.lemmas.Bool.{ltb-true}
 use Rattle.plat_base.specs.Machine.{Machine}
 use Rattle.plat_base.specs.Pages.{entries_of_page}
 use Rattle.plat_base.specs.declared.items.Removed.{Removed}
 use Rattle.plat_events.specs.Words.{has_references, has_message}
 use Rattle.plat_events.specs.Places.{is_mask_word, is_word}
 use Rattle.plat_events.specs.Events.{is_followed}
-use Rattle.plat_events.specs.Shootdowns.{Shot, Posting, PostingOn, Asking, Interrupting, Watching, AskingAgain, Shoot, Makes, Polls, Done, targets, target_at, ask_from, shoot_from, mask_found, is_active_in, shot_next, shot_after}
+use Rattle.plat_events.specs.Shootdowns.{Shot, Posting, PostingOn, Asking, Interrupting, Watching, AskingAgain, Shoot, Makes, Polls, Done}
+use Rattle.plat_events.specs.Shootdowns.{targets, target_at, ask_from, shoot_from, mask_found, is_active_in, shot_next, shot_after}
 use Rattle.plat_shoot.specs.Steps.{ShotFits, ShootFits}
 use Rattle.plat_shoot.specs.ShootSeen.{ShootSeen, ShootsOn, with_shoot, shoot_after, watch_again}
-
-below : (a b : ℕ) → nat_lt a b ≡ true → a < b
-below a b h = grind (arith, nat_tests)
 
 module _ (m : Machine) (a page : ℕ) where
   either :
@@ -25,12 +24,12 @@ module _ (m : Machine) (a page : ℕ) where
   pub ask_from-fits : (posts : List ℕ) (k : ℕ) → ShootFits m a page (ask_from m a page posts k)
   ask_from-fits posts k =
       either (nat_lt k (length (targets m a page posts))) (Makes posts (Asking k)) (Done posts)
-      (λ h. below k (length (targets m a page posts)) h) (λ h. tt)
+      (λ h. ltb-true k (length (targets m a page posts)) h) (λ h. tt)
 
   pub shoot_from-fits : (posts : List ℕ) → ShootFits m a page (shoot_from m a page posts)
   shoot_from-fits posts =
       either (nat_lt (length posts) (length (entries_of_page m page))) (Makes posts Posting) (ask_from m a page posts 0)
-      (λ h. below (length posts) (length (entries_of_page m page)) h) (λ h. ask_from-fits posts 0)
+      (λ h. ltb-true (length posts) (length (entries_of_page m page)) h) (λ h. ask_from-fits posts 0)
 
   mask_found-fits :
       (posts : List ℕ) (n : ℕ) → length posts < length (entries_of_page m page) → IsTrue (is_mask_word m n) →

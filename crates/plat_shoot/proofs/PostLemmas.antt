@@ -4,7 +4,9 @@ use Rattle.std.specs.Prelude.{◌==◌, ◌&&◌, ◌||◌, not, bit_or}
 use Rattle.std.proofs.lemmas.Nat.{one_shl}
 use Rattle.plat_base.specs.declared.items.Removed.TheVariants.{Writes, All}
 use Rattle.plat_events.specs.Words.{has_bit, has_reference, has_invalidate, has_restrict, posted_mask}
-use Rattle.plat_words.proofs.Masks.{AreParts, parts_word, parts_word-below, mask_word-below, same_mask, has_reference-parts, has_invalidate-parts, has_restrict-parts, has_reference-mask_word, has_invalidate-mask_word, has_restrict-mask_word}
+use Rattle.plat_words.proofs.Masks.{AreParts, parts_word, parts_word-below, mask_word-below, same_mask, has_reference-parts}
+use Rattle.plat_words.proofs.Masks.{has_invalidate-parts, has_restrict-parts, has_reference-mask_word, has_invalidate-mask_word}
+use Rattle.plat_words.proofs.Masks.{has_restrict-mask_word}
 use Rattle.plat_words.proofs.SingleBits.{has_bit-pow, has_bit-or}
 
 -- one set of bits without another

@@ -1,5 +1,6 @@
 -- the targets of a shootdown, as a search goes past them
-use Rattle.std.proofs.Common.{◌≡◌, ℕ, zero, suc, ◌+◌, ◌*◌, ◌<◌, ◌≤◌, Bool, true, false, inl, inr, List, [], ◌∷◌, ◌++◌, length, map, drop, filter, Some, None, refl, ap, ◌∙◌, arith}
+use Rattle.std.proofs.Common.{◌≡◌, ℕ, zero, suc, ◌+◌, ◌*◌, ◌<◌, ◌≤◌, Bool, true, false, inl, inr, List, [], ◌∷◌, ◌++◌, length, map, drop}
+use Rattle.std.proofs.Common.{filter, get_or, Some, None, refl, ap, ◌∙◌, arith}
 use Rattle.std.specs.Prelude.{◌==◌, nat_lt, ◌&&◌, not, slice_get}
 use Rattle.std.specs.Option.{option_map}
 use Rattle.std.specs.List.{flat_map, zip}
@@ -11,28 +12,24 @@ use Rattle.std.proofs.lemmas.Bool.Decides.{nat_tests}
 use Rattle.plat_base.specs.Seen.{machine}
 use Rattle.plat_base.specs.declared.configs.Config.{Config}
 use Rattle.plat_base.proofs.LimitLemmas.{nodes_most}
-use Rattle.plat_words.proofs.Entries.{entries_most_of}
+use Rattle.plat_base.proofs.EntryLimits.{entries_most_of}
 use Rattle.plat_base.specs.Machine.{Machine}
 use Rattle.plat_base.specs.Pages.{page_of, numbers, entries_of_page}
 use Rattle.plat_events.specs.Words.{has_reference}
 use Rattle.plat_events.specs.Shootdowns as events
 use Rattle.plat_events.specs.Shootdowns.{targets, targets_of, ask_from, Makes, Done, Asking, no_target}
 use Rattle.plat_shoot.specs.Sought.{others}
-use Rattle.plat_shoot.proofs.EntryLemmas.{rest_from, entries_from, entries_from-next, entries_from-past, entries_from-end}
+use Rattle.plat_shoot.proofs.EntryLemmas.{rest_from}
+use Rattle.plat_base.proofs.ListLemmas.{slice_get-append, length-filter}
 
 -- the other references of a mask from processor q on
 abbrev pub others_from : (nodes actor mask q : ℕ) → List ℕ
 others_from nodes actor mask q = rest_from (λ i. has_reference mask i && not (i == actor)) nodes q
 
--- the targets of the entries from e on, by the masks from i on
-abbrev pub targets_from : Machine → (actor page : ℕ) → (posts : List ℕ) → (e i : ℕ) → List events.Target
-targets_from m actor page posts e i =
-    flat_map (λ (x : ℕ × ℕ). targets_of m actor x.0 x.1) (zip (entries_from m page e) (drop i posts))
-
-get_appended : {T : Type 0} (xs ys : List T) (at : ℕ) (x : T) → slice_get xs at ≡ Some x → slice_get (xs ++ ys) at ≡ Some x
-get_appended [] ys at x h = absurd cc
-get_appended (y ∷ xs) ys zero x h = h
-get_appended (y ∷ xs) ys (suc at) x h = get_appended xs ys at x h
+-- the targets of the posts from place i on
+abbrev pub targets_from : Machine → (actor page : ℕ) → (posts : List ℕ) → (i : ℕ) → List events.Target
+targets_from m actor page posts i =
+    flat_map (λ (x : ℕ × ℕ). targets_of m actor x.0 x.1) (drop i (zip (entries_of_page m page) posts))
 
 get_behind : {T : Type 0} (xs ys : List T) (left at : ℕ) → length xs + left ≡ at → slice_get (xs ++ ys) at ≡ slice_get ys left
 get_behind [] ys left at h = ap (λ n. slice_get ys n) (omega arith)
@@ -45,73 +42,58 @@ drop_all [] (suc i) h = refl
 drop_all (x ∷ xs) zero h = absurd (omega arith)
 drop_all (x ∷ xs) (suc i) h = drop_all xs i (omega arith)
 
-drop_next : (xs : List ℕ) (i x : ℕ) → slice_get xs i ≡ Some x → drop i xs ≡ x ∷ drop (i + 1) xs
-drop_next [] i x h = absurd cc
-drop_next (y ∷ xs) zero x h = grind arith
-drop_next (y ∷ xs) (suc i) x h =
-    let e : suc (i + 1) ≡ suc i + 1 = omega arith in
-    drop_next xs i x h ∙ ap (λ (zs : List ℕ). x ∷ zs) (ap (λ (n : ℕ). drop n (y ∷ xs)) e)
+pair_at :
+    (es ms : List ℕ) (i e mask : ℕ) → i < length es → i < length ms → e ≡ get_or es i 0 → mask ≡ get_or ms i 0 →
+    drop i (zip es ms) ≡ (e, mask) ∷ drop (i + 1) (zip es ms)
+pair_at [] ms i e mask h k p q = absurd (omega arith)
+pair_at (x ∷ es) [] i e mask h k p q = absurd (omega arith)
+pair_at (x ∷ es) (y ∷ ms) zero e mask h k p q = rw (p, q) refl
+pair_at (x ∷ es) (y ∷ ms) (suc i) e mask h k p q =
+    let same : suc (i + 1) ≡ suc i + 1 = omega arith in
+    pair_at es ms i e mask (omega arith) (omega arith) p q
+    ∙ ap (λ (zs : List (ℕ × ℕ)). (e, mask) ∷ zs) (ap (λ (n : ℕ). drop n ((x, y) ∷ zip es ms)) same)
 
-zip_nothing : (es ms : List ℕ) → ms ≡ [] → zip es ms ≡ []
-zip_nothing [] ms h = refl
-zip_nothing (e ∷ es) ms h = rw h refl
-
-module _ (m : Machine) (actor page : ℕ) (posts : List ℕ) (e i : ℕ) where
-  pub targets_from-past :
-      e < length m.entries → (page_of m e ≡ page → ⊥) → targets_from m actor page posts e i ≡ targets_from m actor page posts (e + 1) i
-  targets_from-past h k =
-      ap (λ (es : List ℕ). flat_map (λ (x : ℕ × ℕ). targets_of m actor x.0 x.1) (zip es (drop i posts))) (entries_from-past m page e h k)
-
-  pub targets_from-next :
-      (mask : ℕ) → e < length m.entries → page_of m e ≡ page → slice_get posts i ≡ Some mask →
-      targets_from m actor page posts e i ≡ targets_of m actor e mask ++ targets_from m actor page posts (e + 1) (i + 1)
-  targets_from-next mask h k s = rw (entries_from-next m page e h k, drop_next posts i mask s) refl
-
-  pub targets_from-over : slice_get posts i ≡ None → targets_from m actor page posts e i ≡ []
-  targets_from-over s =
+module _ (m : Machine) (actor page : ℕ) (posts : List ℕ) (i : ℕ) where
+  pub targets_from-end : length (zip (entries_of_page m page) posts) ≤ i → targets_from m actor page posts i ≡ []
+  targets_from-end h =
       ap (λ (xs : List (ℕ × ℕ)). flat_map (λ (x : ℕ × ℕ). targets_of m actor x.0 x.1) xs)
-      (zip_nothing (entries_from m page e) (drop i posts) (drop_all posts i (past s)))
-    where
-      past : slice_get posts i ≡ None → length posts ≤ i
-      past s = grind (arith, slice_get-get_or posts i 0)
+      (drop_all (zip (entries_of_page m page) posts) i h)
 
-  pub targets_from-end : length m.entries ≤ e → targets_from m actor page posts e i ≡ []
-  targets_from-end h = rw (entries_from-end m page e h) refl
+  module _ (e mask : ℕ) (here : i < length (entries_of_page m page)) (posted : i < length posts)
+      (entry : e ≡ get_or (entries_of_page m page) i 0) (found : mask ≡ get_or posts i 0) where
+    targets_from-next : targets_from m actor page posts i ≡ targets_of m actor e mask ++ targets_from m actor page posts (i + 1)
+    targets_from-next = rw (pair_at (entries_of_page m page) posts i e mask here posted entry found) refl
 
-  -- the target that is sought stands among those of this entry
-  pub target-found :
-      (at left mask q : ℕ) → e < length m.entries → page_of m e ≡ page → slice_get posts i ≡ Some mask →
-      slice_get (targets m actor page posts) at ≡ slice_get (targets_from m actor page posts e i) left →
-      slice_get (others m.nodes actor mask) left ≡ Some q →
-      slice_get (targets m actor page posts) at ≡ Some (record { entry = e; processor = q })
-  target-found at left mask q h k s t f =
-      let here : slice_get (targets_of m actor e mask) left ≡ Some (record { entry = e; processor = q }) =
-      slice_get-map (λ q. record { entry = e; processor = q }) (others m.nodes actor mask) left
-      ∙ ap (option_map (λ q. record { entry = e; processor = q })) f in
-      t ∙ ap (λ (ts : List events.Target). slice_get ts left) (targets_from-next mask h k s)
-      ∙ get_appended (targets_of m actor e mask) (targets_from m actor page posts (e + 1) (i + 1)) left
-      (record { entry = e; processor = q }) here
+    -- the target that is sought stands among those of this entry
+    pub target-found :
+        (at left q : ℕ) →
+        slice_get (targets m actor page posts) at ≡ slice_get (targets_from m actor page posts i) left →
+        slice_get (others m.nodes actor mask) left ≡ Some q →
+        slice_get (targets m actor page posts) at ≡ Some (record { entry = e; processor = q })
+    target-found at left q t f =
+        let stands : slice_get (targets_of m actor e mask) left ≡ Some (record { entry = e; processor = q }) =
+        slice_get-map (λ q. record { entry = e; processor = q }) (others m.nodes actor mask) left
+        ∙ ap (option_map (λ q. record { entry = e; processor = q })) f in
+        t ∙ ap (λ (ts : List events.Target). slice_get ts left) targets_from-next
+        ∙ slice_get-append (targets_of m actor e mask) (targets_from m actor page posts (i + 1)) left
+        (record { entry = e; processor = q }) stands
 
-  -- or behind them
-  pub target-left :
-      (at left mask more : ℕ) → e < length m.entries → page_of m e ≡ page → slice_get posts i ≡ Some mask →
-      slice_get (targets m actor page posts) at ≡ slice_get (targets_from m actor page posts e i) left →
-      length (others m.nodes actor mask) + more ≡ left →
-      slice_get (targets m actor page posts) at ≡ slice_get (targets_from m actor page posts (e + 1) (i + 1)) more
-  target-left at left mask more h k s t f =
-      t ∙ ap (λ (ts : List events.Target). slice_get ts left) (targets_from-next mask h k s)
-      ∙ get_behind (targets_of m actor e mask) (targets_from m actor page posts (e + 1) (i + 1)) more left
-      (grind (arith, count (others m.nodes actor mask)))
-    where
-      count : (qs : List ℕ) → length (map (λ q. let t : events.Target = record { entry = e; processor = q } in t) qs) ≡ length qs
-      count [] = refl
-      count (q ∷ qs) = ap suc (count qs)
+    -- or behind them
+    pub target-left :
+        (at left more : ℕ) →
+        slice_get (targets m actor page posts) at ≡ slice_get (targets_from m actor page posts i) left →
+        length (others m.nodes actor mask) + more ≡ left →
+        slice_get (targets m actor page posts) at ≡ slice_get (targets_from m actor page posts (i + 1)) more
+    target-left at left more t f =
+        t ∙ ap (λ (ts : List events.Target). slice_get ts left) targets_from-next
+        ∙ get_behind (targets_of m actor e mask) (targets_from m actor page posts (i + 1)) more left
+        (grind (arith, count (others m.nodes actor mask)))
+      where
+        count : (qs : List ℕ) → length (map (λ q. let t : events.Target = record { entry = e; processor = q } in t) qs) ≡ length qs
+        count [] = refl
+        count (q ∷ qs) = ap suc (count qs)
 
 -- ---- how many there are
-
-length-filter_le : (p : ℕ → Bool) (xs : List ℕ) → length (filter p xs) ≤ length xs
-length-filter_le p [] = omega arith
-length-filter_le p (x ∷ xs) = grind (arith, length-filter_le p xs)
 
 length-map_targets : (e : ℕ) (qs : List ℕ) → length (map (λ q. let t : events.Target = record { entry = e; processor = q } in t) qs)
     ≡ length qs
@@ -124,7 +106,7 @@ targets_of-few m a e mask h =
       arith,
       h,
       length-map_targets e (others m.nodes a mask),
-      length-filter_le (λ q. has_reference mask q && not (q == a)) (numbers m.nodes),
+      length-filter (λ q. has_reference mask q && not (q == a)) (numbers m.nodes),
       length-range_with_len 0 m.nodes,
     )
 
@@ -148,7 +130,7 @@ pub entries_of_page-few : (cfg : Config) (page : ℕ) → length (entries_of_pag
 entries_of_page-few cfg page =
     omega (
       arith,
-      length-filter_le (λ e. page_of (machine cfg) e == page) (numbers (length cfg.entries.items)),
+      length-filter (λ e. page_of (machine cfg) e == page) (numbers (length cfg.entries.items)),
       length-range_with_len 0 (length cfg.entries.items),
       entries_most_of cfg,
     )

@@ -50,6 +50,11 @@ is_word_needed (need.Word at op) = true
 is_word_needed need.Poll = false
 is_word_needed need.Finished = false
 
+abbrev pub is_finished : Need → Bool
+is_finished (need.Word at op) = false
+is_finished need.Poll = false
+is_finished need.Finished = true
+
 abbrev pub is_polling : Shoot → Bool
 is_polling (Makes posts shot) = false
 is_polling (Polls posts k) = true

@@ -3,7 +3,8 @@ ghost use Rattle.std.specs.Prelude.{◌≡◌, ◌<◌, ◌≤◌, ◌++◌, ◌
 ghost use Rattle.plat_base.specs.Pages.{entries_of_page};
 ghost use Rattle.plat_base.specs.Seen.{machine};
 ghost use Rattle.plat_events.specs.Places.{is_name};
-ghost use Rattle.plat_events.specs.Shootdowns.{targets, entry_posted, shot_next, shot_after, ask_from, shoot_from, mask_found, own_post, is_active_in, target_at};
+ghost use Rattle.plat_events.specs.Shootdowns.{targets, entry_posted, shot_next, shot_after, ask_from, shoot_from, mask_found, own_post};
+ghost use Rattle.plat_events.specs.Shootdowns.{is_active_in, target_at};
 ghost use Rattle.plat_events.specs.Words.{has_message};
 ghost use Rattle.plat_shoot.specs.Sought.{target_seen};
 ghost use Rattle.plat_shoot.specs.Steps.{shot_seen, shoot_seen, ShotFits};
@@ -57,6 +58,22 @@ pub fn operation(cfg: &Config, order: Order, posts: &[u64], shot: Shot) -> (Word
             let target = target_of(cfg, order, posts, k);
             (WordName::Cmap(target.entry), Op::Load)
         }
+    }
+}
+
+/// The word of the next operation alone.
+pub fn name_of(cfg: &Config, order: Order, posts: &[u64], shot: Shot) -> WordName
+    requires { ShotFits (machine cfg.now) order.actor order.page posts.now (shot_seen shot) }
+    ensures { result
+        ≡ (shot_next (machine cfg.now) order.actor order.page order.removed posts.now (shot_seen shot)).0 }
+{
+    match shot {
+        Shot::Posting | Shot::PostingOn(_) => WordName::Cmap(entry_posted(cfg, order, posts)),
+        Shot::Asking(k) | Shot::AskingAgain(k) => {
+            WordName::Act(target_of(cfg, order, posts, k).processor)
+        }
+        Shot::Interrupting(k) => WordName::Intr(target_of(cfg, order, posts, k).processor),
+        Shot::Watching(k) => WordName::Cmap(target_of(cfg, order, posts, k).entry),
     }
 }
 

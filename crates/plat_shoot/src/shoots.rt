@@ -2,10 +2,11 @@
 ghost use Rattle.std.specs.Prelude.{◌≡◌, ◌≢◌, ◌<◌, ◌≤◌, IsTrue};
 ghost use Rattle.plat_base.specs.Machine.{Machine};
 ghost use Rattle.plat_base.specs.Seen.{machine};
-ghost use Rattle.plat_shoot.specs.ShootSeen.{ShootsOn, shoot_started, with_shoot, need_of, is_word_needed, is_polling, shoot_after, watch_again, own_after, own_by};
+ghost use Rattle.plat_shoot.specs.ShootSeen.{ShootsOn, shoot_started, with_shoot, need_of, is_word_needed, is_polling, shoot_after};
+ghost use Rattle.plat_shoot.specs.ShootSeen.{is_finished, watch_again, own_after, own_by};
 
 use crate::needs::{Need, Own};
-use crate::orders::{Order, Posts, after, operation, own_post, shoot_from};
+use crate::orders::{Order, Posts, after, name_of, operation, own_post, shoot_from};
 use crate::steps::{Shot, Step};
 use arrayvec::ArrayVec;
 use plat_base::{Config, Removed};
@@ -73,6 +74,20 @@ impl Shoot {
         }
     }
 
+    /// Whether it needs an operation next.
+    pub fn needs_word(&self) -> bool
+        ensures { (m : Machine) → result ≡ is_word_needed (need_of m self.now) }
+    {
+        matches!(self.step, Step::Makes(_))
+    }
+
+    /// Whether it is over.
+    pub fn is_finished(&self) -> bool
+        ensures { (m : Machine) → result ≡ is_finished (need_of m self.now) }
+    {
+        matches!(self.step, Step::Done)
+    }
+
     /// Goes on after its operation, which found `old`, and says what that takes of the actor's own translations. A number
     /// that the word cannot be changes nothing.
     pub fn after(&mut self, cfg: &Config, old: u64) -> Own
@@ -86,7 +101,7 @@ impl Shoot {
         let Step::Makes(shot) = self.step else {
             unreachable!()
         };
-        let (name, _) = operation(cfg, self.order, self.posts.as_slice(), shot);
+        let name = name_of(cfg, self.order, self.posts.as_slice(), shot);
         if !is_word(cfg, name, old) {
             return Own::Nothing;
         }

@@ -6,7 +6,7 @@ ghost use Rattle.plat_events.specs.Shootdowns.{targets};
 ghost use Rattle.plat_events.specs.Words.{has_reference};
 ghost use Rattle.plat_shoot.specs.Sought.{target_seen, others, IsSought, IsWithin};
 
-use crate::entries::entry_count;
+use crate::entries::entries_of_page;
 use crate::masks::has_reference;
 use plat_base::Config;
 
@@ -60,16 +60,15 @@ pub fn target_at(cfg: &Config, actor: u32, page: u32, posts: &[u64], at: u32) ->
     ensures processor { IfSome result (λ t. t.processor < cfg.now.nodes) }
 {
     let mut left = at;
-    let mut passed = 0;
-    for entry in 0..entry_count(cfg) {
-        if cfg.page_of(entry) == page {
-            if let Some(mask) = posts.get(passed) {
-                match other_at(cfg, actor, *mask, left) {
-                    Sought::Found(processor) => return Some(Target { entry, processor }),
-                    Sought::Left(more) => left = more,
-                }
-                passed += 1;
+    for (entry, mask) in entries_of_page(cfg, page).iter().zip(posts) {
+        match other_at(cfg, actor, *mask, left) {
+            Sought::Found(processor) => {
+                return Some(Target {
+                    entry: *entry,
+                    processor,
+                });
             }
+            Sought::Left(more) => left = more,
         }
     }
     None

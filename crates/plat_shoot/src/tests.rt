@@ -1,51 +1,26 @@
 //! A shootdown of a page whose translations both processors of a machine have, operation by operation. Two nodes and one
 //! entry, of space 0: the words of the active spaces stand at 2 and 3, those of interrupts at 4 and 5, and the mask at 8.
-ghost use Rattle.std.specs.Prelude.{◌≡◌, [], IfOk};
-ghost use Rattle.plat_base.specs.Machine.{program_seen};
+ghost use Rattle.std.specs.Prelude.{◌≡◌, IfOk};
 ghost use Rattle.plat_base.specs.Seen.{machine};
 ghost use Rattle.plat_shoot.specs.ShootSeen.{ShootsOn};
 
 use super::*;
-use plat_base::{Config, Entry, GuestText, List, Op, OutOfMemory, Plan, PolicyKind, Removed};
+use plat_base::{Config, Op, OutOfMemory, PolicyKind, Removed};
+use plat_samples::{Sizes, entry, idle_nodes};
 use std::alloc::Global;
 use std::test::Fail;
-
-fn guest(alloc: Global) -> GuestText
-    ensures { program_seen result ≡ record { space = 0; code = []; labels = [] } }
-{
-    GuestText {
-        space: 0,
-        code: List::new(alloc),
-        labels: List::new(alloc),
-    }
-}
 
 fn two_nodes(alloc: Global) -> Result<Config, OutOfMemory>
     ensures nodes { IfOk result (λ cfg. cfg.nodes ≡ 2) }
     ensures pages { IfOk result (λ cfg. cfg.pages ≡ 1) }
 {
-    let mut entries = List::with_room(alloc, 1)?;
-    entries.push(Entry {
-        space: 0,
-        vpage: 0,
-        page: 0,
-    });
-    let mut guests = List::with_room(alloc, 2)?;
-    guests.push(guest(alloc));
-    guests.push(guest(alloc));
-    Ok(Config {
+    let sizes = Sizes {
         nodes: 2,
         frames: 1,
-        words: 4,
         pages: 1,
-        policy: PolicyKind::Replicate,
         budget: 10,
-        schedule: Plan::Robin,
-        distances: List::new(alloc),
-        entries,
-        inits: List::new(alloc),
-        guests,
-    })
+    };
+    idle_nodes(alloc, sizes, PolicyKind::Replicate, &[entry(0, 0)], &[])
 }
 
 /// What the shootdown needs, and what it takes of the actor's own translations where that is an operation and finds `old`.

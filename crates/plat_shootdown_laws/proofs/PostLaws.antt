@@ -1,18 +1,16 @@
 -- a post that is made keeps the invariant
-use Rattle.std.specs.Prelude.{◌≡◌, ◌≢◌, ◌⊎◌, ℕ, zero, suc, ◌+◌, ◌<◌, ◌≤◌, ◌==◌, ◌&&◌, ◌||◌, not, if◌then◌else◌, Bool, true, false, List, [], ◌∷◌, ◌++◌, map, length, take, filter, cond, Option, Some, None, is_some, IsTrue}
+use Rattle.std.specs.Prelude.{◌≡◌, ◌≢◌, ◌⊎◌, ℕ, zero, suc, ◌+◌, ◌<◌, ◌≤◌, ◌==◌, ◌&&◌, ◌||◌, not, if◌then◌else◌, Bool, true, false, List, []}
+use Rattle.std.specs.Prelude.{◌∷◌, ◌++◌, map, length, take, filter, cond, Option, Some, None, is_some, IsTrue}
 use Rattle.std.proofs.Common.{refl, ap, sym, ◌∙◌, inl, inr, arith, subst, length-append}
 use Rattle.std.specs.List.{list_any, range_with_len}
-use Rattle.std.specs.Option.{option_map_or}
-use Rattle.std.proofs.lemmas.Bool.{cases_eq, eq-eqb, ne_eqb, true≢false}
+use Rattle.std.proofs.lemmas.Bool.{cases_eq, eq-eqb, ne_eqb, true≢false, false_from_ne_true}
 use Rattle.std.proofs.lemmas.Bool.Decides.{nat_tests}
 use Rattle.std.proofs.lemmas.List.{get_or-set_same, get_or-set_other}
 use Rattle.plat_base.specs.Verdicts.{Answer}
 use Rattle.plat_base.specs.Machine.{Machine}
-use Rattle.plat_base.specs.Directories.{dir_of}
-use Rattle.plat_base.specs.Held.{held, has_right, kept_of, later, removes_all, removes_writes}
+use Rattle.plat_base.specs.Held.{held, kept_of}
 use Rattle.plat_base.specs.Messages.{removes_some}
 use Rattle.plat_base.specs.Pages.{page_of, entries_of_page}
-use Rattle.plat_base.specs.declared.items.Kind.TheVariants.{Store}
 use Rattle.plat_base.specs.declared.items.Removed.{Removed}
 use Rattle.plat_base.specs.declared.items.Removed.TheVariants.{Nothing, Writes, All}
 use Rattle.plat_base.specs.declared.items.Translation.{Translation}
@@ -26,8 +24,9 @@ use Rattle.plat_events.specs.Sessions.{Course, Phase, Shooting, Session, decisio
 use Rattle.plat_events.specs.Privates.{InSession, Private, actor_count, translation_at}
 use Rattle.plat_events.specs.Events.{at, drop_own, shoot_place}
 use Rattle.plat_events.specs.Standings.{is_quiet}
-use Rattle.plat_events.specs.Kept.{session_on, word_at, private_of}
-use Rattle.plat_events.specs.Views.{EntryOk, HeldOk, InvalidateStays, View, PlaceView, view, view_of, held_view, session_view, place_view, page_view, agrees, translation_of}
+use Rattle.plat_events.specs.Kept.{word_at, private_of}
+use Rattle.plat_events.specs.Views.{EntryOk, HeldOk, InvalidateStays, View, PlaceView, view, view_of, held_view, place_view}
+use Rattle.plat_events.specs.Views.{page_view, translation_of}
 use Rattle.plat_events.specs.Runs.{Fine, event}
 use Rattle.plat_events.specs.Shown.{IsReachedAlone, Shows}
 use Rattle.plat_laws.specs.Guests.{IsWithinLimits}
@@ -38,13 +37,14 @@ use Rattle.plat_fine_laws.proofs.PrivateLaws.{private_of-new, private_of-other}
 use Rattle.plat_fine_laws.proofs.SessionFootprints.{posting_on-changes}
 use Rattle.plat_fine_laws.proofs.ViewFactLaws.{view_facts}
 use Rattle.plat_fine_laws.proofs.WordLaws.{word_at-new, word_at-other}
-use Rattle.plat_frame_laws.specs.Phased.{running}
+use Rattle.plat_frame_laws.specs.SessionMoved.{SessionLeaves, PairOk}
+use Rattle.plat_frame_laws.proofs.SessionMovedLaws as moved
 use Rattle.plat_frame_laws.proofs.HandLaws.{alone}
 use Rattle.plat_frame_laws.proofs.SessionHereLaws.{here, session, reached-session}
-use Rattle.plat_shootdown_laws.specs.Shots.{ShotPhase, ShotLeaves, ShotWords, PairOk, is_steady}
+use Rattle.plat_shootdown_laws.specs.Shots.{ShotPhase, ShotWords, is_steady}
 use Rattle.plat_shootdown_laws.proofs.ShotPhaseLaws.{phase-shooting, phase-shoot_from}
 use Rattle.plat_shootdown_laws.proofs.TargetLaws.{EntryIs, entry-is, any-take_more, any-targets_more}
-use Rattle.plat_shootdown_laws.proofs.ShotMovedLaws.{ran, runs, place-same, shows-shot}
+use Rattle.plat_shootdown_laws.proofs.ShotMovedLaws.{shows-shot}
 use Rattle.plat_shootdown_laws.proofs.ShotPairLaws.{posted_by, owed_by, shot_seen, shot-viewed, pair-ok}
 use Rattle.plat_shootdown_laws.proofs.ShotStepLaws.{shoot-goes, shoot-scan, shoot-message, step-posts}
 use Rattle.plat_shootdown_laws.proofs.ShotKindLaws.{shooting-ok, names, named, encoded}
@@ -84,10 +84,6 @@ module _ (e q : ℕ) (keep : ℕ → Bool) where
           first-here lo (keep lo) (filter keep (range_with_len (lo + 1) n)) (eq-eqb lo q same) (less (omega (arith, same))) ∙ ap keep same
       by (inr apart) more less =
           first-other lo (keep lo) (filter keep (range_with_len (lo + 1) n)) (ne_eqb lo q apart) ∙ more (omega (arith, low, apart))
-
-not_so : (b : Bool) → (b ≡ true → ⊥) → b ≡ false
-not_so true h = absurd (h refl)
-not_so false h = refl
 
 none_kept : (rem : Removed) (t : Option Translation) → is_some t ≡ false → t ≡ kept_of rem t
 none_kept Nothing None h = refl
@@ -213,7 +209,7 @@ module _ (m : Machine) (answer : Answer) (s : Fine) (a : ℕ) (x : Session) (c :
   other-page : (e : ℕ) → page_of m e ≢ page → e ≢ entry
   other-page e apart same = apart (ap (page_of m) same ∙ entry-here.of_page)
 
-  leaves-by : (b : Bool) → ShotLeaves m x.fault.page p (dropped b) (with_phase x next)
+  leaves-by : (b : Bool) → SessionLeaves m x.fault.page p (dropped b) (with_phase x next)
   leaves-by true = record {
     turns = refl;
     now = refl;
@@ -235,7 +231,7 @@ module _ (m : Machine) (answer : Answer) (s : Fine) (a : ℕ) (x : Session) (c :
     message = shoot-message m (dropped false) (with_phase x next) shoot;
   }
 
-  leaves : ShotLeaves m x.fault.page p (dropped (has_reference n a)) (with_phase x next)
+  leaves : SessionLeaves m x.fault.page p (dropped (has_reference n a)) (with_phase x next)
   leaves = leaves-by (has_reference n a)
 
   mask-other : (e : ℕ) → e < entry_count m → e ≢ entry → word_at m t (word.Cmap e) ≡ word_at m s (word.Cmap e)
@@ -284,10 +280,8 @@ module _ (m : Machine) (answer : Answer) (s : Fine) (a : ℕ) (x : Session) (c :
         ≡ view_of q o n (shot_seen a q rem (posted_by m page rem c.posts entry) (owed_by m a page c.posts 0 entry q) (is_quiet x.phase)) pv
         (page_view m s of_entry o)
     first-seen =
-        ap (λ r. view_of q o n (session_view m answer q entry o r) pv (page_view m s of_entry o))
-        (ap (session_on s.privates) entry-here.of_page
-        ∙ ran m answer s t a name (posted_mask rem a n) after x c 0 0 posts next limits shows within stands changes there words leaves
-        from to)
+        moved.seen-before m answer s t a name (posted_mask rem a n) after x next shows within stands changes leaves q entry
+        entry-here.of_page
         ∙ ap (λ sv. view_of q o n sv pv (page_view m s of_entry o)) (shot-viewed m answer a p.now x c 0 x.phase from q entry o)
 
     facts : ViewFacts (view m answer s q entry)
@@ -298,7 +292,7 @@ module _ (m : Machine) (answer : Answer) (s : Fine) (a : ℕ) (x : Session) (c :
 
     unowed : owed_by m a page c.posts 0 entry q ≡ false
     unowed =
-        not_so (owed_by m a page c.posts 0 entry q)
+        false_from_ne_true (owed_by m a page c.posts 0 entry q)
         (λ h. true≢false (sym ((subst ViewFacts first-seen facts).owed_posted h).0 ∙ unposted))
 
     seen-before :
@@ -344,38 +338,21 @@ module _ (m : Machine) (answer : Answer) (s : Fine) (a : ℕ) (x : Session) (c :
       held = rw (seen-after, held-after) ok.held;
     }
       where
-        page_view-still : (r : Option Translation) → page_view m t of_entry r ≡ page_view m s of_entry r
-        page_view-still r = λ i. record {
-          dir = dir_of (history-same i) of_entry;
-          all_after = option_map_or (λ (y : Translation). later removes_all (history-same i) of_entry y.seq) r false;
-          writes_after = option_map_or (λ (y : Translation). later removes_writes (history-same i) of_entry y.seq) r false;
-        }
-
-        on : session_on t.privates of_entry ≡ Some (running a p.now (with_phase x next))
-        on =
-            ap (session_on t.privates) entry-here.of_page
-            ∙ runs m answer s t a name (posted_mask rem a n) after x c 0 0 posts next limits shows within stands changes there words leaves
-            from to
-
         seen-after :
             view m answer t q entry
             ≡ view_of q u (posted_mask rem a n) (shot_seen a q rem true owed (is_quiet next)) pv (page_view m s of_entry u)
         seen-after =
-            (λ i. view_of q (translation i) (mask-new i) (session_view m answer q entry (translation i) (on i))
-            (place-same m answer s t a name (posted_mask rem a n) after x c 0 0 posts next limits shows within stands changes there words
-            leaves from to q entry i)
-            (page_view-still (translation i) i))
+            moved.seen-after m answer s t a name (posted_mask rem a n) after x next shows within stands changes leaves q entry
+            u (posted_mask rem a n) translation entry-here.of_page mask-new
             ∙ (ap (λ sv. view_of q u (posted_mask rem a n) sv pv (page_view m s of_entry u))
             (shot-viewed m answer a p.now x (with_posts c posts) 0 next to q entry u)
             ∙ ap (λ b. view_of q u (posted_mask rem a n) (shot_seen a q rem b owed (is_quiet next)) pv (page_view m s of_entry u))
             posted-now)
 
         held-after : held_view m t q entry ≡ held_beside u h
-        held-after = λ i. record {
-          held = is_some (held m (history-same i) q entry);
-          held_writes = has_right Store (held m (history-same i) q entry);
-          same = agrees (translation i) (held m (history-same i) q entry);
-        }
+        held-after =
+            moved.held-after m answer s t a name (posted_mask rem a n) after x next shows within stands changes leaves q entry
+            u (posted_mask rem a n) translation
 
     few : q < 8
     few = let most = nodes-most m limits in omega (arith, most, inside)
@@ -423,8 +400,8 @@ module _ (m : Machine) (answer : Answer) (s : Fine) (a : ℕ) (x : Session) (c :
       by : (e ≡ entry) ⊎ (e ≢ entry) → PairOk m answer t q e
       by (inl same) = subst (PairOk m answer t q) (sym same) (pair-entry q inside)
       by (inr apart) =
-          pair-ok m answer s t a name (posted_mask rem a n) after x c 0 0 posts next limits shows within stands changes there words leaves
-          from to q e inside below of_page (mask-other e below apart) (pmap-other (has_reference n a) e apart)
+          pair-ok m answer s t a name (posted_mask rem a n) after x c 0 0 posts next limits shows within stands changes leaves from to
+          q e inside below of_page (mask-other e below apart) (pmap-other (has_reference n a) e apart)
           (step-posts m s a page rem c.posts q e n left (λ same. absurd (apart same)))
 
   -- the post is made

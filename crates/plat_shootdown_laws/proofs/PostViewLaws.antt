@@ -9,7 +9,8 @@ use Rattle.plat_base.specs.declared.items.Removed.{Removed}
 use Rattle.plat_base.specs.declared.items.Removed.TheVariants.{Nothing, Writes, All}
 use Rattle.plat_base.specs.declared.items.Translation.{Translation}
 use Rattle.plat_events.specs.Words.{has_reference, has_invalidate, has_restrict, posted_mask}
-use Rattle.plat_events.specs.Views.{Own, Another, View, SessionView, PlaceView, PageView, EntryOk, InvalidateStays, HeldView, HeldOk, view_of, page_view, agrees}
+use Rattle.plat_events.specs.Views.{Own, Another, View, SessionView, PlaceView, PageView, EntryOk, InvalidateStays, HeldView, HeldOk}
+use Rattle.plat_events.specs.Views.{view_of, page_view, agrees}
 use Rattle.plat_events.specs.Runs.{Fine}
 use Rattle.plat_words.proofs.Masks.{has_reference-mask_word, has_invalidate-mask_word, has_restrict-mask_word}
 use Rattle.plat_views.specs.Facts.{ViewFacts}

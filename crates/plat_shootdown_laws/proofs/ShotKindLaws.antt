@@ -1,8 +1,10 @@
 -- each operation of a shootdown that writes no mask keeps the invariant
-use Rattle.std.specs.Prelude.{◌≡◌, ◌≢◌, ◌⊎◌, ℕ, ◌+◌, ◌^◌, ◌<◌, ◌==◌, ◌&&◌, ◌||◌, not, if◌then◌else◌, Bool, true, false, [], ◌∷◌, ◌++◌, length, Option, Some, None, is_some, IsTrue, slice_get, bit_or}
+use Rattle.std.specs.Prelude.{◌≡◌, ◌≢◌, ◌⊎◌, ℕ, ◌+◌, ◌^◌, ◌<◌, ◌==◌, ◌&&◌, not, if◌then◌else◌, Bool, true, false, [], ◌∷◌, ◌++◌}
+use Rattle.std.specs.Prelude.{length, Option, Some, None, is_some, IsTrue, slice_get, bit_or}
 use Rattle.std.proofs.Common.{refl, ap, sym, ◌∙◌, inl, inr, arith, subst, length-append}
-use Rattle.std.proofs.lemmas.Bool.{ne_eqb}
+use Rattle.std.proofs.lemmas.Bool.{ne_eqb, or_parts}
 use Rattle.std.proofs.lemmas.Bool.Decides.{nat_tests}
+use Rattle.std.proofs.Math.Bool.{and-false}
 use Rattle.plat_base.specs.Verdicts.{Answer}
 use Rattle.plat_base.specs.Machine.{Machine}
 use Rattle.plat_base.specs.Pages.{space_of}
@@ -15,8 +17,11 @@ use Rattle.plat_base.specs.declared.words.WordName.TheVariants as word
 use Rattle.plat_events.specs.Words.{has_references, has_message, has_reference, has_invalidate, has_restrict, posted_mask}
 use Rattle.plat_events.specs.Places.{entry_count, is_name, is_word}
 use Rattle.plat_events.specs.Operations.{written}
-use Rattle.plat_events.specs.Shootdowns.{Shot, Posting, PostingOn, Asking, Interrupting, Watching, AskingAgain, Makes, Polls, Target, targets, target_at, entry_posted, shot_next, ask_from, shoot_from, mask_found, is_active_in, shot_after, own_post}
-use Rattle.plat_events.specs.Sessions.{Course, Phase, Shooting, Storing, Session, decision_of, session_next, with_phase, with_posts, phase_after}
+use Rattle.plat_events.specs.Shootdowns.{Shot, Posting, PostingOn, Asking, Interrupting, Watching, AskingAgain, Makes, Polls, Target}
+use Rattle.plat_events.specs.Shootdowns.{targets, target_at, entry_posted, shot_next, ask_from, shoot_from, mask_found, is_active_in}
+use Rattle.plat_events.specs.Shootdowns.{shot_after, own_post}
+use Rattle.plat_events.specs.Sessions.{Course, Phase, Shooting, Storing, Session, decision_of, session_next, with_phase, with_posts}
+use Rattle.plat_events.specs.Sessions.{phase_after}
 use Rattle.plat_events.specs.Privates.{Place, Ticking, Lessening, Exchanging, InSession, Private, actor_count}
 use Rattle.plat_events.specs.Events.{named_next, at, drop_own, shoot_place}
 use Rattle.plat_events.specs.Standings.{shot_passed}
@@ -34,7 +39,8 @@ use Rattle.plat_local_laws.proofs.StandingLaws.{actor-is}
 use Rattle.plat_local_laws.proofs.WordLaws.{leaves_word}
 use Rattle.plat_fine_laws.specs.Changes.{Changes, KeepsWords}
 use Rattle.plat_fine_laws.proofs.WordLaws.{KeepsWords-loaded, KeepsWords-interrupt}
-use Rattle.plat_fine_laws.proofs.SessionFootprints.{posting-changes, posting_on-changes, asking-changes, interrupting-changes, watching-changes, asking_again-changes}
+use Rattle.plat_fine_laws.proofs.SessionFootprints.{posting-changes, posting_on-changes, asking-changes, interrupting-changes}
+use Rattle.plat_fine_laws.proofs.SessionFootprints.{watching-changes, asking_again-changes}
 use Rattle.plat_frame_laws.proofs.HandLaws.{alone}
 use Rattle.plat_frame_laws.proofs.SessionHereLaws.{here, session, reached-session}
 use Rattle.plat_shootdown_laws.specs.Shots.{ShotPhase}
@@ -45,20 +51,12 @@ use Rattle.plat_shootdown_laws.proofs.ShotStepLaws.{step-stays, step-passes, ste
 
 -- ---- numbers
 
-and_false : (b : Bool) → (b && false) ≡ false
-and_false true = refl
-and_false false = refl
-
 -- a processor whose word does not name the space is not active in it
 inactive : (left : Bool) (active space found : ℕ) → found ≡ (if left then 0 else active + 1) → (found == space + 1) ≡ false →
     (space == active && not left) ≡ false
-inactive true active space found is other = and_false (space == active)
+inactive true active space found is other = and-false (space == active)
 inactive false active space found is other =
     let apart : (space == active) ≡ false = grind (arith, nat_tests, is, other) in ap (λ b. b && true) apart
-
-no_message : (b c : Bool) → (b || c) ≡ false → (b ≡ false) × (c ≡ false)
-no_message true c h = absurd cc
-no_message false c h = (refl, h)
 
 module _ (m : Machine) (answer : Answer) (s : Fine) (a : ℕ) (x : Session) (c : Course) (shot : Shot) (limits : IsWithinLimits m)
     (shows : Shows m answer s) (within : a < actor_count m) (stands : (private_of m s a).place ≡ InSession x)
@@ -406,7 +404,7 @@ module _ (m : Machine) (answer : Answer) (s : Fine) (a : ℕ) (x : Session) (c :
       by false clear =
           passes-on m answer s a x c (Watching k) limits shows within stands is name n n changes there keeps found reached k refl ok
           (ap (λ b. if b then Makes c.posts (AskingAgain k) else ask_from m a page' c.posts (k + 1)) clear)
-          (inl (no_message (has_invalidate n (target_at m a page' c.posts k).processor)
+          (inl (or_parts (has_invalidate n (target_at m a page' c.posts k).processor)
           (has_restrict n (target_at m a page' c.posts k).processor) clear))
 
   -- a target is interrupted

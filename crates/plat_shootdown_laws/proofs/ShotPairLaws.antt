@@ -1,43 +1,42 @@
 -- what a shootdown says to a processor and an entry of its page, and that the invariant holds of them behind an operation that
 -- writes no mask and leaves the translations
-use Rattle.std.specs.Prelude.{◌≡◌, ◌⊎◌, ℕ, ◌<◌, ◌==◌, ◌&&◌, if◌then◌else◌, Bool, true, false, List, [], length, take, drop, Option, Some, None, is_some, IsTrue}
-use Rattle.std.proofs.Common.{refl, ap, sym, ◌∙◌, inl, inr, arith, subst}
+use Rattle.std.specs.Prelude.{◌≡◌, ◌⊎◌, ℕ, ◌<◌, ◌==◌, ◌&&◌, if◌then◌else◌, Bool, true, false, List, [], length, take, drop, Option, Some}
+use Rattle.std.specs.Prelude.{None, is_some}
+use Rattle.std.proofs.Common.{refl, ap, sym, ◌∙◌, subst}
 use Rattle.std.specs.Option.{option_map_or}
 use Rattle.std.specs.List.{list_any}
-use Rattle.std.proofs.lemmas.Bool.{cases_eq}
+use Rattle.std.proofs.Math.Bool.{and-false}
 use Rattle.plat_base.specs.Verdicts.{Answer}
 use Rattle.plat_base.specs.Machine.{Machine}
 use Rattle.plat_base.specs.Copies.{same_frame}
 use Rattle.plat_base.specs.Messages.{removes_some}
 use Rattle.plat_base.specs.Pages.{page_of, entries_of_page}
-use Rattle.plat_base.specs.Directories.{dir_of}
-use Rattle.plat_base.specs.Held.{held, has_right, later, removes_all, removes_writes}
-use Rattle.plat_base.specs.declared.items.Kind.TheVariants.{Store}
 use Rattle.plat_base.specs.declared.items.Removed.{Removed}
 use Rattle.plat_base.specs.declared.items.Removed.TheVariants.{Nothing}
 use Rattle.plat_base.specs.declared.items.Translation.{Translation}
 use Rattle.plat_base.specs.declared.words.WordName.{WordName}
 use Rattle.plat_base.specs.declared.words.WordName.TheVariants as word
 use Rattle.plat_events.specs.Words.{has_reference, has_invalidate, has_restrict}
-use Rattle.plat_events.specs.Places.{entry_count, is_name}
+use Rattle.plat_events.specs.Places.{entry_count}
 use Rattle.plat_events.specs.Shootdowns.{Target, targets}
 use Rattle.plat_events.specs.Sessions.{Course, Phase, Session, decision_of, going, translation_made, with_phase, with_posts}
 use Rattle.plat_events.specs.Privates.{InSession, Private, actor_count, translation_at}
 use Rattle.plat_events.specs.Standings.{targets_left, is_quiet, frames_given}
-use Rattle.plat_events.specs.Kept.{session_on, is_active, word_at, private_of}
-use Rattle.plat_events.specs.Views.{Own, Another, SessionView, EntryOk, HeldOk, InvalidateStays, View, view, view_of, held_view, session_view, session_viewed, place_view, page_view, agrees, translation_of, same_translation}
+use Rattle.plat_events.specs.Kept.{is_active, word_at, private_of}
+use Rattle.plat_events.specs.Views.{Own, Another, SessionView, EntryOk, HeldOk, InvalidateStays, View, view, view_of, held_view}
+use Rattle.plat_events.specs.Views.{session_viewed, place_view, page_view, translation_of, same_translation}
 use Rattle.plat_events.specs.Runs.{Fine}
 use Rattle.plat_events.specs.Shown.{Shows}
 use Rattle.plat_laws.specs.Guests.{IsWithinLimits}
 use Rattle.plat_views.specs.Facts.{ViewFacts}
 use Rattle.plat_fine_laws.specs.Changes.{Changes}
-use Rattle.plat_fine_laws.proofs.PrivateLaws.{private_of-new, private_of-other}
 use Rattle.plat_fine_laws.proofs.ViewFactLaws.{view_facts}
 use Rattle.plat_frame_laws.specs.Phased.{running}
 use Rattle.plat_frame_laws.proofs.HandLaws.{alone}
-use Rattle.plat_shootdown_laws.specs.Shots.{ShotPhase, ShotLeaves, ShotWords, PairOk}
+use Rattle.plat_frame_laws.specs.SessionMoved.{SessionLeaves, PairOk}
+use Rattle.plat_frame_laws.proofs.SessionMovedLaws as moved
+use Rattle.plat_shootdown_laws.specs.Shots.{ShotPhase}
 use Rattle.plat_shootdown_laws.proofs.ShotViewLaws.{ShotSees, sees_ok, sees_waits, sees_held}
-use Rattle.plat_shootdown_laws.proofs.ShotMovedLaws.{ran, runs, place-same}
 
 -- ---- what a shootdown says to a processor and an entry
 
@@ -60,10 +59,6 @@ shot_seen a q rem p o b = record {
   given = false;
   mine = false;
 }
-
-and_false : (b : Bool) → (b && false) ≡ false
-and_false true = refl
-and_false false = refl
 
 module _ (m : Machine) (answer : Answer) (a now : ℕ) (x : Session) (c : Course) (k : ℕ) (ph : Phase)
     (is : ShotPhase m answer a now x c k ph) (q e : ℕ) (t : Option Translation) where
@@ -132,8 +127,8 @@ module _ (m : Machine) (answer : Answer) (a now : ℕ) (x : Session) (c : Course
 
       by_granted :
           viewed (Some c) None (drop k (targets m a x.fault.page c.posts)) ≡ seen false gives false
-      by_granted = λ i. seen (and_false (a == q) i) gives
-          (and_false (a == q) i
+      by_granted = λ i. seen (and-false (a == q) i) gives
+          (and-false (a == q) i
           && option_map_or (λ (y : Translation). option_map_or (λ d. same_translation y (translation_made m answer a now x d e)) None
           false) t
           false)
@@ -155,8 +150,8 @@ pub record ShotStep (m : Machine) (s : Fine) (a page : ℕ) (rem : Removed) (pos
 module _ (m : Machine) (answer : Answer) (s t : Fine) (a : ℕ) (name : WordName) (number : ℕ) (after : Private) (x : Session) (c : Course)
     (k k' : ℕ) (posts : List ℕ) (next : Phase) (limits : IsWithinLimits m) (shows : Shows m answer s) (within : a < actor_count m)
     (stands : (private_of m s a).place ≡ InSession x)
-    (changes : Changes m s t a name number after None) (named : IsTrue (is_name m name)) (words : ShotWords m x.fault.page s t)
-    (leaves : ShotLeaves m x.fault.page (private_of m s a) after (with_phase x next))
+    (changes : Changes m s t a name number after None)
+    (leaves : SessionLeaves m x.fault.page (private_of m s a) after (with_phase x next))
     (from : ShotPhase m answer a (private_of m s a).now x c k x.phase)
     (to : ShotPhase m answer a (private_of m s a).now x (with_posts c posts) k' next)
     (q e : ℕ) (inside : q < m.nodes) (below : e < entry_count m) (of_page : page_of m e ≡ x.fault.page)
@@ -176,58 +171,27 @@ module _ (m : Machine) (answer : Answer) (s t : Fine) (a : ℕ) (name : WordName
   seen' = session_viewed m answer q e (translation_of m s q e) (running a (private_of m s a).now (with_phase x next))
 
   translation-own : translation_of m t q e ≡ translation_of m s q e
-  translation-own = by (cases_eq q a)
-    where
-      by : (q ≡ a) ⊎ ((q ≡ a) → ⊥) → translation_of m t q e ≡ translation_of m s q e
-      by (inl same) =
-          let count : a < length s.privates = omega (arith, shows.all_privates) in
-          rw same (ap (λ (y : Private). translation_at y e) (private_of-new m s t a name number after None changes count) ∙ pmap)
-      by (inr apart) = ap (λ (y : Private). translation_at y e) (private_of-other m s t a name number after None changes q apart)
+  translation-own = moved.translation-same m answer s t a name number after x next shows within stands changes leaves q e pmap
 
   abbrev mask : ℕ
   mask = word_at m s (word.Cmap e)
-
-  history-same : t.history ≡ s.history
-  history-same = changes.history
 
   seen-before :
       view m answer s q e
       ≡ view_of q (translation_of m s q e) (word_at m s (word.Cmap e)) seen (place_view m (private_of m s q) e)
       (page_view m s (page_of m e) (translation_of m s q e))
-  seen-before =
-      ap
-      (λ r. view_of q o mask (session_view m answer q e o r) (place_view m (private_of m s q) e) (page_view m s (page_of m e) o))
-      (ap (session_on s.privates) of_page
-      ∙ ran m answer s t a name number after x c k k' posts next limits shows within stands changes named words leaves from to)
-
-  page_view-still : (r : Option Translation) → page_view m t (page_of m e) r ≡ page_view m s (page_of m e) r
-  page_view-still r = λ i. record {
-    dir = dir_of (history-same i) (page_of m e);
-    all_after = option_map_or (λ (y : Translation). later removes_all (history-same i) (page_of m e) y.seq) r false;
-    writes_after = option_map_or (λ (y : Translation). later removes_writes (history-same i) (page_of m e) y.seq) r false;
-  }
+  seen-before = moved.seen-before m answer s t a name number after x next shows within stands changes leaves q e of_page
 
   seen-after :
       view m answer t q e
       ≡ view_of q (translation_of m s q e) (word_at m s (word.Cmap e)) seen' (place_view m (private_of m s q) e)
       (page_view m s (page_of m e) (translation_of m s q e))
-  seen-after = λ i.
-      view_of q (translation-own i) (mask-same i)
-      (session_view m answer q e (translation-own i) (on i))
-      (place-same m answer s t a name number after x c k k' posts next limits shows within stands changes named words leaves from to q e i)
-      (page_view-still (translation-own i) i)
-    where
-      on : session_on t.privates (page_of m e) ≡ Some (running a now (with_phase x next))
-      on =
-          ap (session_on t.privates) of_page
-          ∙ runs m answer s t a name number after x c k k' posts next limits shows within stands changes named words leaves from to
+  seen-after =
+      moved.seen-after m answer s t a name number after x next shows within stands changes leaves q e o mask translation-own of_page
+      mask-same
 
   held-still : held_view m t q e ≡ held_view m s q e
-  held-still = λ i. record {
-    held = is_some (held m (history-same i) q e);
-    held_writes = has_right Store (held m (history-same i) q e);
-    same = agrees (translation-own i) (held m (history-same i) q e);
-  }
+  held-still = moved.held-after m answer s t a name number after x next shows within stands changes leaves q e o mask translation-own
 
   sees : ShotSees seen seen' (is_some (translation_of m s q e)) (has_invalidate (word_at m s (word.Cmap e)) q)
       (has_restrict (word_at m s (word.Cmap e)) q) (is_active m (private_of m s q) e)

@@ -1,7 +1,7 @@
 -- the phases of a shootdown, and those just behind it
 use Rattle.std.specs.Prelude.{◌≡◌, ℕ, zero, suc, ◌≤◌, nat_lt, if◌then◌else◌, Bool, true, false, List, [], ◌∷◌, length, drop, Some, None}
 use Rattle.std.proofs.Common.{refl, ap, sym, ◌∙◌, inl, inr, arith}
-use Rattle.std.proofs.lemmas.Bool.Decides.{nat_tests}
+use Rattle.std.proofs.lemmas.Bool.{ltb-false}
 use Rattle.plat_base.specs.Verdicts.{Answer}
 use Rattle.plat_base.specs.Machine.{Machine}
 use Rattle.plat_base.specs.Pages.{entries_of_page}
@@ -26,9 +26,6 @@ drop_all [] (suc k) most = refl
 drop_all (t ∷ ts) zero most = absurd (omega arith)
 drop_all (t ∷ ts) (suc k) most = drop_all ts k (omega arith)
 
-not_below : (k n : ℕ) → nat_lt k n ≡ false → n ≤ k
-not_below k n h = grind (arith, nat_tests)
-
 -- a frame in hand is one that the action names
 pub got-names :
     (m : Machine) (answer : Answer) (a : ℕ) (p : Private) (x : Session) (c : Course) (f : Frame) → IsActor m a → FaultOk m a p x.fault →
@@ -50,18 +47,7 @@ module _ (m : Machine) (answer : Answer) (a now : ℕ) (x : Session) (c : Course
   -- a shootdown of these posts
   pub phase-shooting : (posts : List ℕ) (shot : Shot) →
       ShotPhase m answer a now x (with_posts c posts) (shot_passed shot) (Shooting (with_posts c posts) shot)
-  phase-shooting posts shot = record {
-    course = refl;
-    stamp = refl;
-    unlocking = refl;
-    stamped = refl;
-    copied = refl;
-    given = refl;
-    filled = λ f h. refl;
-    saw = refl;
-    left = refl;
-    posted = λ h. absurd cc;
-  }
+  phase-shooting posts shot = search arith
 
   module _ (posts : List ℕ) (names : (f : Frame) → c.got ≡ Some f → names_got (decision_of m answer a now x c).action ≡ true) where
     abbrev done : Course
@@ -122,7 +108,7 @@ module _ (m : Machine) (answer : Answer) (a now : ℕ) (x : Session) (c : Course
             posts))
         by true is = phase-shooting posts (Asking k)
         by false is =
-            phase-over k (decision_of m answer a now x c).action refl (not_below k (length (targets m a page posts)) is) all
+            phase-over k (decision_of m answer a now x c).action refl (ltb-false k (length (targets m a page posts)) is) all
 
     -- the next post, or the first target
     pub phase-shoot_from :
@@ -135,4 +121,4 @@ module _ (m : Machine) (answer : Answer) (a now : ℕ) (x : Session) (c : Course
             m a
             page posts 0))
         by true is = phase-shooting posts Posting
-        by false is = let least = not_below (length posts) (length (entries_of_page m page)) is in phase-ask_from 0 (omega arith)
+        by false is = let least = ltb-false (length posts) (length (entries_of_page m page)) is in phase-ask_from 0 (omega arith)

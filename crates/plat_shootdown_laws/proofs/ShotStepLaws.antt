@@ -1,8 +1,9 @@
 -- the operations of a shootdown that write no mask: where they lead, and that the invariant holds on behind them
-use Rattle.std.specs.Prelude.{◌≡◌, ◌⊎◌, ℕ, ◌+◌, ◌<◌, ◌==◌, ◌&&◌, ◌||◌, Bool, true, false, List, [], ◌∷◌, ◌++◌, length, take, slice_index, Some, None, is_some, IsTrue}
+use Rattle.std.specs.Prelude.{◌≡◌, ◌⊎◌, ℕ, ◌+◌, ◌<◌, ◌==◌, ◌&&◌, ◌||◌, Bool, true, false, List, [], ◌∷◌, ◌++◌, length, take, slice_index}
+use Rattle.std.specs.Prelude.{Some, None, is_some, IsTrue}
 use Rattle.std.proofs.Common.{refl, ap, sym, ◌∙◌, subst, length-append}
 use Rattle.std.specs.List.{list_any}
-use Rattle.std.proofs.lemmas.Bool.{and_parts, eqb-true, true≢false}
+use Rattle.std.proofs.lemmas.Bool.{and_parts, eqb-true, true≢false, or_left}
 use Rattle.plat_base.specs.Verdicts.{Answer}
 use Rattle.plat_base.specs.Machine.{Machine}
 use Rattle.plat_base.specs.Messages.{removes_some}
@@ -12,7 +13,8 @@ use Rattle.plat_base.specs.declared.words.WordName.{WordName}
 use Rattle.plat_base.specs.declared.words.WordName.TheVariants as word
 use Rattle.plat_events.specs.Words.{has_invalidate, has_restrict}
 use Rattle.plat_events.specs.Places.{entry_count, is_name, is_word}
-use Rattle.plat_events.specs.Shootdowns.{Shot, Shoot, Makes, Polls, Done, Target, no_target, targets_of, targets, target_at, entry_posted, shot_after}
+use Rattle.plat_events.specs.Shootdowns.{Shot, Shoot, Makes, Polls, Done, Target, no_target, targets_of, targets, target_at, entry_posted}
+use Rattle.plat_events.specs.Shootdowns.{shot_after}
 use Rattle.plat_events.specs.Sessions.{Course, Phase, Shooting, Session, decision_of, with_phase, with_posts, with_shoot, phase_after}
 use Rattle.plat_events.specs.Privates.{InSession, Private, actor_count}
 use Rattle.plat_events.specs.Events.{at, shoot_place}
@@ -23,8 +25,9 @@ use Rattle.plat_events.specs.Runs.{Fine}
 use Rattle.plat_events.specs.Shown.{IsReachedAlone, Shows}
 use Rattle.plat_laws.specs.Guests.{IsWithinLimits}
 use Rattle.plat_fine_laws.specs.Changes.{Changes, GoesOn, KeepsWords, is_read}
+use Rattle.plat_frame_laws.specs.SessionMoved.{SessionLeaves}
 use Rattle.plat_frame_laws.proofs.SessionHereLaws.{session}
-use Rattle.plat_shootdown_laws.specs.Shots.{ShotPhase, ShotLeaves, ShotWords, is_steady}
+use Rattle.plat_shootdown_laws.specs.Shots.{ShotPhase, ShotWords, is_steady}
 use Rattle.plat_shootdown_laws.proofs.ShotPhaseLaws.{phase-shooting}
 use Rattle.plat_shootdown_laws.proofs.TargetLaws.{any-take_more, any-drop_more, any-targets_more}
 use Rattle.plat_shootdown_laws.proofs.ShotMovedLaws.{shows-shot}
@@ -141,10 +144,6 @@ module _ (m : Machine) (s : Fine) (a page : ℕ) (rem : Removed) (posts : List �
           ap (λ (k : ℕ). removes_some rem && list_any (λ y. y == e) (take k (entries_of_page m page))) (length-append posts (n ∷ []))
           ∙ ap (λ b. removes_some rem && b) (any-take_more (λ y. y == e) (length posts) (entries_of_page m page) inside)
 
-      or_left : (b d : Bool) → b ≡ true → (b || d) ≡ true
-      or_left true d h = refl
-      or_left false d h = absurd cc
-
       left : (r b d : Bool) → (r && b) ≡ true → (r && (b || d)) ≡ true
       left true true d h = refl
       left true false d h = absurd cc
@@ -183,7 +182,7 @@ module _ (m : Machine) (answer : Answer) (s t : Fine) (a : ℕ) (name : WordName
   to-phase : ShotPhase m answer a p.now x (with_posts c posts) k' next
   to-phase = subst (ShotPhase m answer a p.now x (with_posts c posts) k') (sym next-is) to
 
-  leaves : ShotLeaves m x.fault.page p after (with_phase x next)
+  leaves : SessionLeaves m x.fault.page p after (with_phase x next)
   leaves = record {
     turns = refl;
     now = refl;
@@ -212,6 +211,5 @@ module _ (m : Machine) (answer : Answer) (s t : Fine) (a : ℕ) (name : WordName
       shows-shot m answer s t a name number after x c (shot_passed shot) k' posts next limits shows within stands changes named words
       leaves from-phase to-phase
       (λ q e inside below of_page. pair-ok m answer s t a name number after x c (shot_passed shot) k' posts next limits shows within stands
-      changes named words leaves from-phase to-phase q e inside below of_page (keeps (word.Cmap e) refl) refl (step q e inside below
-      of_page))
+      changes leaves from-phase to-phase q e inside below of_page (keeps (word.Cmap e) refl) refl (step q e inside below of_page))
       (session m answer s a x limits shows within stands).fault.page encoded reached

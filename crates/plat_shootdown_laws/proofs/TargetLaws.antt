@@ -1,9 +1,11 @@
 -- the targets of a shootdown, and the entries that it has posted to
-use Rattle.std.specs.Prelude.{◌≡◌, ℕ, zero, suc, ◌+◌, ◌<◌, ◌≤◌, ◌==◌, ◌&&◌, ◌||◌, nat_lt, not, Bool, true, false, List, [], ◌∷◌, ◌++◌, map, length, take, drop, filter, cond, slice_index, slice_index_or}
+use Rattle.std.specs.Prelude.{◌≡◌, ℕ, zero, suc, ◌+◌, ◌<◌, ◌≤◌, ◌==◌, ◌&&◌, ◌||◌, nat_lt, not, Bool, true, false, List, [], ◌∷◌, ◌++◌, map}
+use Rattle.std.specs.Prelude.{length, take, drop, filter, cond, slice_index, slice_index_or}
 use Rattle.std.proofs.Common.{refl, ap, sym, ◌∙◌, arith}
 use Rattle.std.specs.List.{list_any, list_all, range_with_len, zip, flat_map}
-use Rattle.std.proofs.lemmas.Bool.{and_parts, eqb-true}
+use Rattle.std.proofs.lemmas.Bool.{and_parts, eqb-true, and_from, ltb-true}
 use Rattle.std.proofs.lemmas.Bool.Decides.{nat_tests}
+use Rattle.std.proofs.lemmas.List.{take_more}
 use Rattle.std.proofs.lemmas.List.Folds.{list_any-append}
 use Rattle.plat_base.specs.Machine.{Machine}
 use Rattle.plat_base.specs.Pages.{page_of, entries_of_page}
@@ -11,34 +13,15 @@ use Rattle.plat_events.specs.Words.{has_reference}
 use Rattle.plat_events.specs.Places.{entry_count}
 use Rattle.plat_events.specs.Shootdowns.{Target, targets_of, targets, target_at}
 use Rattle.plat_frame_laws.proofs.StartPhaseLaws.{targets-none}
-
-or_right : (b c : Bool) → c ≡ true → (b || c) ≡ true
-or_right true c h = refl
-or_right false c h = h
-
-or_left : (b c : Bool) → b ≡ true → (b || c) ≡ true
-or_left true c h = refl
-or_left false c h = absurd cc
+use Rattle.plat_base.proofs.ListLemmas.{list_any-push}
 
 -- ---- one more of a list
 
 pub any-take_more :
     (test : ℕ → Bool) (k : ℕ) (es : List ℕ) → k < length es →
     list_any test (take (k + 1) es) ≡ (list_any test (take k es) || test (slice_index es k))
-any-take_more test k [] inside = absurd (omega arith)
-any-take_more test zero (e ∷ es) inside = by (test e)
-  where
-    by : (b : Bool) → (b || false) ≡ b
-    by true = refl
-    by false = refl
-any-take_more test (suc k) (e ∷ es) inside =
-    let number : suc k + 1 ≡ suc (k + 1) = omega arith in
-    ap (λ n. list_any test (take n (e ∷ es))) number
-    ∙ (ap (λ b. test e || b) (any-take_more test k es (omega arith)) ∙ by (test e) (list_any test (take k es)) (test (slice_index es k)))
-  where
-    by : (b c d : Bool) → (b || (c || d)) ≡ ((b || c) || d)
-    by true c d = refl
-    by false c d = refl
+any-take_more test k es inside =
+    ap (list_any test) (take_more es k 0 inside) ∙ list_any-push test (take k es) (slice_index es k)
 
 pub any-drop_more :
     (test : Target → Bool) (d : Target) (k : ℕ) (ts : List Target) → k < length ts →
@@ -56,16 +39,12 @@ all-at test d k [] all inside = absurd (omega arith)
 all-at test d zero (x ∷ xs) all inside = (and_parts (test x) (list_all test xs) all).0
 all-at test d (suc k) (x ∷ xs) all inside = all-at test d k xs (and_parts (test x) (list_all test xs) all).1 (omega arith)
 
-both : (b c : Bool) → b ≡ true → c ≡ true → (b && c) ≡ true
-both true c h k = k
-both false c h k = absurd cc
-
 all-append : {A : Type 0} (test : A → Bool) (xs ys : List A) → list_all test xs ≡ true → list_all test ys ≡ true →
     list_all test (xs ++ ys) ≡ true
 all-append test [] ys h k = k
 all-append test (x ∷ xs) ys h k =
     let parts = and_parts (test x) (list_all test xs) h in
-    both (test x) (list_all test (xs ++ ys)) parts.0 (all-append test xs ys parts.1 k)
+    and_from (test x) (list_all test (xs ++ ys)) parts.0 (all-append test xs ys parts.1 k)
 
 -- ---- targets
 
@@ -83,7 +62,8 @@ module _ (m : Machine) (a page : ℕ) (test : Target → Bool)
           list_all test (map (λ q. record { entry = e; processor = q }) qs) ≡ true →
           list_all test (map (λ q. record { entry = e; processor = q }) (cond b (lo ∷ qs) qs)) ≡ true
       by true qs first rest =
-          both (test (record { entry = e; processor = lo })) (list_all test (map (λ q. record { entry = e; processor = q }) qs)) first rest
+          and_from (test (record { entry = e; processor = lo })) (list_all test (map (λ q. record { entry = e; processor = q }) qs)) first
+          rest
       by false qs first rest = rest
 
   all-entries : (lo n : ℕ) (posts : List ℕ) → lo + n ≤ entry_count m →
@@ -127,13 +107,10 @@ target-is m a page posts k inside =
     let parts = and_parts (nat_lt t.processor m.nodes && nat_lt t.entry (entry_count m)) (page_of m t.entry == page) here in
     let first = and_parts (nat_lt t.processor m.nodes) (nat_lt t.entry (entry_count m)) parts.0 in
     record {
-      processor = below t.processor m.nodes first.0;
-      entry = below t.entry (entry_count m) first.1;
+      processor = ltb-true t.processor m.nodes first.0;
+      entry = ltb-true t.entry (entry_count m) first.1;
       of_page = eqb-true (page_of m t.entry) page parts.1;
     }
-  where
-    below : (i n : ℕ) → nat_lt i n ≡ true → i < n
-    below i n h = grind (arith, nat_tests)
 
 -- an entry that is next to be posted to is one of the page
 pub record EntryIs (m : Machine) (page e : ℕ) : Type 0 where

@@ -1,7 +1,9 @@
 -- the operations of shootdowns
 use Rattle.std.specs.Prelude.{Bool, true, false}
-use Rattle.plat_events.specs.Sessions.{Phase, Stamping, Seeking, Taking, Returning, Shooting, Filling, Reading, Copying, Giving, Storing, Granting, Unlocking}
-use Rattle.plat_events.specs.Privates.{Place, Polling, Looking, Applying, Ticking, Switching, Loading, Expecting, Exchanging, Locking, InSession, Leaving, Lessening, Gone, LiveLooking, TimeLooking, Over}
+use Rattle.plat_events.specs.Sessions.{Phase, Stamping, Seeking, Taking, Returning, Shooting, Filling, Reading, Copying, Giving, Storing}
+use Rattle.plat_events.specs.Sessions.{Granting, Unlocking}
+use Rattle.plat_events.specs.Privates.{Place, Polling, Looking, Applying, Ticking, Switching, Loading, Expecting, Exchanging, Locking}
+use Rattle.plat_events.specs.Privates.{InSession, Leaving, Lessening, Gone, LiveLooking, TimeLooking, Over}
 
 -- the next operation of a session at this phase is one of its shootdown
 abbrev pub phase_shoots : Phase → Bool

@@ -1,21 +1,18 @@
 -- a session in its shootdown or just behind it, and what an operation of the shootdown leaves
-use Rattle.std.specs.Prelude.{◌≡◌, ◌≢◌, ℕ, ◌<◌, Bool, true, false, [], length, drop, Some, None, IsTrue, is_some}
+use Rattle.std.specs.Prelude.{◌≡◌, ◌≢◌, ℕ, ◌<◌, Bool, true, false, [], length, drop, Some, None, IsTrue}
 use Rattle.plat_base.specs.Verdicts.{Answer}
 use Rattle.plat_base.specs.Machine.{Machine}
 use Rattle.plat_base.specs.Pages.{entries_of_page, page_of}
 use Rattle.plat_base.specs.declared.frames.Frame.{Frame}
 use Rattle.plat_base.specs.declared.words.WordName.{WordName}
 use Rattle.plat_base.specs.declared.words.WordName.TheVariants as word
-use Rattle.plat_events.specs.Words.{has_reference}
 use Rattle.plat_events.specs.Places.{entry_count, is_name}
 use Rattle.plat_events.specs.Shootdowns.{targets}
 use Rattle.plat_events.specs.Sessions.{Course, Phase, Session, decision_of, going}
-use Rattle.plat_events.specs.Privates.{Private, translation_at}
-use Rattle.plat_events.specs.Standings.{stamp_of, course_of, is_quiet, is_stamped, unlocking_of, words_filled, word_copied, targets_left, frames_given, took_farther, saw_no_frame}
-use Rattle.plat_events.specs.Kept.{activation_at, message_at, word_at}
-use Rattle.plat_events.specs.Views.{EntryOk, HeldOk, InvalidateStays, view, held_view, translation_of}
+use Rattle.plat_events.specs.Standings.{stamp_of, course_of, is_quiet, is_stamped, unlocking_of, words_filled, word_copied, targets_left}
+use Rattle.plat_events.specs.Standings.{frames_given, took_farther, saw_no_frame}
+use Rattle.plat_events.specs.Kept.{word_at}
 use Rattle.plat_events.specs.Runs.{Fine}
-use Rattle.plat_fine_laws.specs.Changes.{GoesOn}
 
 -- phase ph of session x of actor a at tick now, in the shootdown of course c or just behind it: k targets are passed
 pub record ShotPhase (m : Machine) (answer : Answer) (a now : ℕ) (x : Session) (c : Course) (k : ℕ) (ph : Phase) : Type 0 where
@@ -32,18 +29,6 @@ pub record ShotPhase (m : Machine) (answer : Answer) (a now : ℕ) (x : Session)
   -- it is behind the shootdown only where each entry of the page was posted to
   pub posted : is_quiet ph ≡ true → length c.posts ≡ length (entries_of_page m x.fault.page)
 
--- what an operation of a shootdown leaves of its actor's private state: all but its place, and its translations of the page
-pub record ShotLeaves (m : Machine) (page : ℕ) (p after : Private) (x : Session) : Type 0 where
-  pub turns : after.turns ≡ p.turns
-  pub now : after.now ≡ p.now
-  pub guest : after.guest ≡ p.guest
-  pub journal : after.journal ≡ p.journal
-  pub pmap : (e : ℕ) → page_of m e ≢ page → translation_at after e ≡ translation_at p e
-  pub goes : GoesOn (Some x) after.place
-  -- it is in no activation scan, and about to apply no message
-  pub scan : activation_at after.place ≡ None
-  pub message : message_at m after after.place ≡ None
-
 -- not an interrupt, and not the mask of an entry
 abbrev pub is_steady : WordName → Bool
 is_steady word.Time = true
@@ -56,14 +41,7 @@ is_steady (word.Cmap entry) = false
 is_steady (word.Pool mo) = true
 is_steady (word.Memory mo number w) = true
 
--- and of the words: all but interrupts, and the masks of the page
+-- what an operation of a shootdown leaves of the words: all but interrupts, and the masks of the page
 pub record ShotWords (m : Machine) (page : ℕ) (s t : Fine) : Type 0 where
   pub steady : (name : WordName) → IsTrue (is_name m name) → is_steady name ≡ true → word_at m t name ≡ word_at m s name
   pub masks : (e : ℕ) → e < entry_count m → page_of m e ≢ page → word_at m t (word.Cmap e) ≡ word_at m s (word.Cmap e)
-
--- what the invariant says of one processor and one entry
-pub record PairOk (m : Machine) (answer : Answer) (s : Fine) (q e : ℕ) : Type 0 where
-  pub reference : has_reference (word_at m s (word.Cmap e)) q ≡ is_some (translation_of m s q e)
-  pub view_ok : EntryOk (view m answer s q e)
-  pub stays : InvalidateStays (view m answer s q e)
-  pub held : HeldOk (view m answer s q e) (held_view m s q e)

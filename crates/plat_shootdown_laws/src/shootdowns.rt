@@ -15,7 +15,8 @@ use plat_base::{Config, Policy};
 /// interrupt and while it is waited for; every interrupt; and every look at a mask for a target's messages, with the last
 /// target that is passed.
 pub fn any_policy_shoots<P: Policy>(cfg: &Config, policy: &P)
-    ensures { (s : Fine) (a : ℕ) → Shows (machine cfg.now) (P.answer policy.now) s → a < actor_count (machine cfg.now)
+    ensures { (s : Fine) (a : ℕ) → Shows (machine cfg.now) (P.answer policy.now) s →
+        a < actor_count (machine cfg.now)
         → IsTrue (shoots (private_of (machine cfg.now) s a).place)
         → Shows (machine cfg.now) (P.answer policy.now) (event (machine cfg.now) (P.answer policy.now) s a) }
 {}

@@ -23,6 +23,7 @@ use Rattle.plat_table.specs.declared.actors.Actor.{Actor}
 use Rattle.plat_table.specs.Actors.{Fits, PartFits, state_in, held}
 use Rattle.plat_table.specs.Ports.{StaysWithin, StaysWithinAt}
 use Rattle.plat_table.specs.Rule.{Held, Known}
+use Rattle.plat_daemon.proofs.DaemonLemmas.{within-by}
 
 -- ---- an actor of the machine
 
@@ -56,18 +57,12 @@ alone-more m answer a p (n ∷ ns) r = alone-more m answer a (after m answer a p
 same-next : (x y : ℕ × Op) → Some x ≡ Some y → x ≡ y
 same-next x y e = cc
 
-named-within :
-    (m : Machine) (o : Option (WordName × Op)) (x : ℕ × Op) → NamesWord m o → option_map (placed m) o ≡ Some x → x.0 < word_count m
-named-within m None x names e = absurd cc
-named-within m (Some y) x names e =
-    subst (λ n. n < word_count m) (ap (λ (z : ℕ × Op). z.0) (same-next (placed m y) x e)) (place_of-below m y.0 names)
-
 next-within :
     (m : Machine) (a : ℕ) (p : Private) (x : ℕ × Op) → IsTrue (is_machine m) → a < actor_count m
     → IsReachedAlone m (policy_answer m.policy) a p → next_of m (policy_answer m.policy) a p ≡ Some x → x.0 < word_count m
 unfolding next_of
 next-within m a p x limits within alone e =
-    named-within m (named_next m (policy_answer m.policy) a p p.place) x (names_word m (policy_answer m.policy) a p limits within alone) e
+    within-by m (named_next m (policy_answer m.policy) a p p.place) x (names_word m (policy_answer m.policy) a p limits within alone) e
 
 pub stays-within : (m : Machine) (a : ℕ) (x : Part) → IsTrue (is_machine m) → PartFits m a x → StaysWithin m a (state_in m x)
 stays-within m a x limits fits = λ found y next.

@@ -1,6 +1,7 @@
 -- boards at the start, and the words at the end
 use Rattle.plat_base.specs.declared.items.Item.{Item}
-use Rattle.std.proofs.Common.{◌≡◌, ℕ, zero, suc, ◌+◌, ◌<◌, ◌≤◌, ◌≢◌, Bool, true, false, List, [], ◌∷◌, ◌++◌, length, map, set, take, drop, refl, sym, ap, ◌∙◌, subst, arith, zero-add, inl, inr}
+use Rattle.std.proofs.Common.{◌≡◌, ℕ, zero, suc, ◌+◌, ◌<◌, ◌≤◌, ◌≢◌, Bool, true, false, List, [], ◌∷◌, ◌++◌, length, map, set, take, drop}
+use Rattle.std.proofs.Common.{refl, sym, ap, ◌∙◌, subst, arith, zero-add, inl, inr}
 use Rattle.std.specs.Prelude.{◌==◌, ◌⊎◌, if◌then◌else◌, All, IsTrue, Some, slice_get, slice_index_or}
 use Rattle.std.specs.Option.{option_map}
 use Rattle.std.specs.List.{range_with_len}
@@ -85,7 +86,8 @@ kept-start m words e =
     let crew = map (held_first m) (numbers (actor_count m)) in
     record {
       reached = subst (λ ws. Reached m (policy_answer m.policy) ws (first_privates m) []) (sym e) (reached-start m);
-      known = All-cons (AreStatesIn (first_privates m)) crew [] (first-known m 0 (actor_count m) (omega arith)) (All-nil (AreStatesIn (first_privates m)));
+      known = All-cons (AreStatesIn (first_privates m)) crew [] (first-known m 0 (actor_count m) (omega arith))
+          (All-nil (AreStatesIn (first_privates m)));
       once = λ a l.
           let long : length (first_privates m) ≡ actor_count m =
           length-map (numbers (actor_count m)) (first_private m) ∙ length-range_with_len 0 (actor_count m) in
@@ -159,7 +161,8 @@ same-number x y e = cc
 
 -- the actor that is next
 next-there :
-    (all rest : List Actor) (k : ℕ) (x : Actor) → rest ≡ drop k all → k < length all → x ≡ slice_index_or rest 0 x → slice_get all k ≡ Some x
+    (all rest : List Actor) (k : ℕ) (x : Actor) → rest ≡ drop k all → k < length all → x ≡ slice_index_or rest 0 x →
+    slice_get all k ≡ Some x
 next-there all rest k x e within is =
     slice_get_read all (length all) k x refl within
     (is ∙ ap (λ (xs : List Actor). slice_index_or xs 0 x) e ∙ get_or-drop k all 0 x ∙ ap (λ n. slice_index_or all n x) (omega arith))

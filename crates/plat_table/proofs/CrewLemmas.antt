@@ -1,9 +1,11 @@
 -- the actors that seats know
-use Rattle.std.proofs.Common.{◌≡◌, ℕ, zero, suc, ◌+◌, ◌<◌, ◌≤◌, ◌≢◌, Bool, true, false, List, [], ◌∷◌, ◌++◌, length, set, take, drop, refl, sym, ap, ◌∙◌, subst, arith}
+use Rattle.std.proofs.Common.{◌≡◌, ℕ, zero, suc, ◌+◌, ◌<◌, ◌≤◌, ◌≢◌, Bool, true, false, List, [], ◌∷◌, ◌++◌, length, set, take, drop, refl}
+use Rattle.std.proofs.Common.{sym, ap, ◌∙◌, subst, arith}
 use Rattle.std.specs.Prelude.{◌==◌, if◌then◌else◌, All, Some, slice_get}
 use Rattle.std.proofs.lemmas.Bool.Decides.{nat_tests}
 use Rattle.std.proofs.lemmas.List.{take-append-drop}
 use Rattle.std.proofs.lemmas.List.Elements.{All-nil, All-cons, All-head, All-tail}
+use Rattle.std.proofs.lemmas.Option.{same_Some}
 use mathlib.Core.Option.{some, some-injective, some-ne-none}
 use lib.ListN.{get_elem?}
 use Rattle.plat_events.specs.Privates.{Private}
@@ -16,12 +18,9 @@ All-at P [] i x h e = absurd (some-ne-none x (sym e))
 All-at P (y ∷ ys) zero x h e = subst P (some-injective y x e) (All-head P y ys h)
 All-at P (y ∷ ys) (suc i) x h e = All-at P ys i x (All-tail P y ys h) e
 
-same-some : {X : Type 0} (x y : X) → Some x ≡ Some y → x ≡ y
-same-some x y e = cc
-
 pub All-get : {X : Type 0} (P : X → Type 0) (xs : List X) (i : ℕ) (x : X) → All P xs → slice_get xs i ≡ Some x → P x
 All-get P [] i x h e = absurd cc
-All-get P (y ∷ ys) zero x h e = subst P (same-some y x e) (All-head P y ys h)
+All-get P (y ∷ ys) zero x h e = subst P (same_Some y x e) (All-head P y ys h)
 All-get P (y ∷ ys) (suc i) x h e = All-get P ys i x (All-tail P y ys h) e
 
 pub get-set_same : {X : Type 0} (xs : List X) (i : ℕ) (x : X) → i < length xs → slice_get (set xs i x) i ≡ Some x
@@ -52,7 +51,7 @@ pub times-set :
     (b : ℕ) (crew : List Held) (at : ℕ) (h : Held) (p : Private) → slice_get crew at ≡ Some h → times b
     (set crew at (h.0, p)) ≡ times b crew
 times-set b [] at h p e = absurd cc
-times-set b (g ∷ gs) zero h p e = ap (λ (k : Held). once_if (k.0 == b) + times b gs) (sym (same-some g h e))
+times-set b (g ∷ gs) zero h p e = ap (λ (k : Held). once_if (k.0 == b) + times b gs) (sym (same_Some g h e))
 times-set b (g ∷ gs) (suc at) h p e = ap (λ k. once_if (g.0 == b) + k) (times-set b gs at h p e)
 
 here-once : (a : ℕ) → once_if (a == a) ≡ 1
@@ -61,7 +60,7 @@ here-once a = grind (arith, nat_tests)
 pub times-least : (crew : List Held) (at : ℕ) (h : Held) → slice_get crew at ≡ Some h → 1 ≤ times h.0 crew
 times-least [] at h e = absurd cc
 times-least (g ∷ gs) zero h e =
-    let here : once_if (g.0 == h.0) ≡ 1 = ap (λ (k : Held). once_if (k.0 == h.0)) (same-some g h e) ∙ here-once h.0 in omega (arith, here)
+    let here : once_if (g.0 == h.0) ≡ 1 = ap (λ (k : Held). once_if (k.0 == h.0)) (same_Some g h e) ∙ here-once h.0 in omega (arith, here)
 times-least (g ∷ gs) (suc at) h e = omega (arith, times-least gs at h e)
 
 pub times_in-set :
@@ -105,7 +104,7 @@ known-here :
     → slice_get crew at ≡ Some h → times h.0 crew ≤ 1 → AreStatesIn (set privates h.0 q) (set crew at (h.0, q))
 known-here privates q [] at h l k e t = absurd cc
 known-here privates q (g ∷ gs) zero h l k e t =
-    let here : once_if (g.0 == h.0) ≡ 1 = ap (λ (k : Held). once_if (k.0 == h.0)) (same-some g h e) ∙ here-once h.0 in
+    let here : once_if (g.0 == h.0) ≡ 1 = ap (λ (k : Held). once_if (k.0 == h.0)) (same_Some g h e) ∙ here-once h.0 in
     All-cons (IsStateIn (set privates h.0 q)) (h.0, q) gs
     (get-set_same privates h.0 q l)
     (known-else privates h.0 q gs (All-tail (IsStateIn privates) g gs k) (omega (arith, here, t)))

@@ -1,7 +1,7 @@
 -- the journals of a run are those of its history, which is good
 use Rattle.std.proofs.Common.{◌≡◌, ℕ, zero, suc, ◌<◌, ◌≤◌, Bool, true, false, List, [], ◌∷◌, length, refl, sym, ap, ◌∙◌, subst, arith}
 use Rattle.std.specs.Prelude.{◌==◌, if◌then◌else◌, nat_lt, All, IsTrue, Option, Some, None, slice_index, slice_index_or}
-use Rattle.std.proofs.lemmas.Bool.{ne_eqb}
+use Rattle.std.proofs.lemmas.Bool.{ne_eqb, ltb-true, ltb-false}
 use Rattle.std.proofs.lemmas.Bool.Decides.{nat_tests}
 use Rattle.std.proofs.lemmas.List.{length-set, length-map}
 use Rattle.std.proofs.lemmas.List.Elements.{All-nil, All-push, All-head, All-tail}
@@ -14,8 +14,11 @@ use Rattle.plat_base.specs.Verdicts.{Answer, policy_answer}
 use Rattle.plat_base.specs.declared.items.Item.{Item}
 use Rattle.plat_base.specs.declared.words.Op.{Op}
 use Rattle.plat_events.specs.Operations.{told}
-use Rattle.plat_events.specs.Sessions.{Session, Phase, Stamping, Seeking, Taking, Returning, Shooting, Filling, Reading, Copying, Giving, Storing, Granting, Unlocking}
-use Rattle.plat_events.specs.Privates.{Place, Polling, Looking, Applying, Ticking, Switching, Loading, Expecting, Exchanging, Locking, InSession, Leaving, Lessening, Gone, LiveLooking, TimeLooking, Over, Private, actor_count, first_private, translation_at}
+use Rattle.plat_events.specs.Sessions.{Session, Phase, Stamping, Seeking, Taking, Returning, Shooting, Filling, Reading, Copying, Giving}
+use Rattle.plat_events.specs.Sessions.{Storing, Granting, Unlocking}
+use Rattle.plat_events.specs.Privates.{Place, Polling, Looking, Applying, Ticking, Switching, Loading, Expecting, Exchanging, Locking}
+use Rattle.plat_events.specs.Privates.{InSession, Leaving, Lessening, Gone, LiveLooking, TimeLooking, Over, Private, actor_count}
+use Rattle.plat_events.specs.Privates.{first_private, translation_at}
 use Rattle.plat_events.specs.Events.{named_next, after, is_followed, item_if, item_at, item_of, session_item, with_item}
 use Rattle.plat_events.specs.Scans.{entry_scanned}
 use Rattle.plat_events.specs.Runs.{Fine, fine_start, event, event_at, run, run_from, AllLive}
@@ -139,20 +142,14 @@ journal-past [] a l = refl
 journal-past (p ∷ ps) zero l = absurd (omega arith)
 journal-past (p ∷ ps) (suc a) l = journal-past ps a (omega arith)
 
-is-below : (a n : ℕ) → nat_lt a n ≡ true → a < n
-is-below a n e = grind (arith, nat_tests)
-
-is-past : (a n : ℕ) → nat_lt a n ≡ false → n ≤ a
-is-past a n e = grind (arith, nat_tests)
-
 journal-is :
     (m : Machine) (answer : Answer) (s : Fine) (a : ℕ) (b : Bool) → nat_lt a (actor_count m) ≡ b → Shows m answer s
     → All (IsBelow (actor_count m)) s.history → slice_index_or (journals_in s.privates) a [] ≡ items_by a s.history
 journal-is m answer s a true e shows below =
-    let within : a < actor_count m = is-below a (actor_count m) e in
+    let within : a < actor_count m = ltb-true a (actor_count m) e in
     journal-within s.privates a (first_private m a) (omega (arith, within, shows.all_privates)) ∙ shows.journals_are_history a within
 journal-is m answer s a false e shows below =
-    let past : actor_count m ≤ a = is-past a (actor_count m) e in
+    let past : actor_count m ≤ a = ltb-false a (actor_count m) e in
     journal-past s.privates a (omega (arith, past, shows.all_privates)) ∙ sym (nobodys (actor_count m) a s.history past below)
 
 pub has-good : (x : ClosedSeen) → IsTrue (is_machine x.machine) → IsRun x → HasGoodHistory x

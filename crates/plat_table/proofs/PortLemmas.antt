@@ -1,7 +1,7 @@
 -- a port of the table, and one event through it
 use Rattle.std.proofs.Common.{◌≡◌, ℕ, ◌<◌, List, [], ◌∷◌, refl, sym, ap, ◌∙◌, subst}
 use Rattle.std.specs.Prelude.{Option, Some, None, IfSome, IsSome, slice_get, slice_set}
-use Rattle.std.proofs.lemmas.Option.{slice_get_within}
+use Rattle.std.proofs.lemmas.Option.{slice_get_within, same_Some}
 use Rattle.plat_base.specs.Machine.{Machine}
 use Rattle.plat_base.specs.Verdicts.{policy_answer}
 use Rattle.plat_base.specs.declared.words.Op.{Op}
@@ -19,9 +19,6 @@ use Rattle.plat_base.specs.declared.configs.Config.{Config}
 use Rattle.plat_table.specs.Ports.{IsAtItsTable, IsStep, StaysWithin, StaysWithinAt}
 use Rattle.plat_table.specs.Rule.{Held, Known, told_by, held_after, crew_after, moved, served_in, served}
 use Rattle.plat_table.proofs.CrewLemmas.{get-set_same}
-
-same-held : (g h : Held) → Some g ≡ Some h → g ≡ h
-same-held g h e = cc
 
 -- ---- the next operation is on a word of the table
 
@@ -58,7 +55,7 @@ stays-by :
     (j : ℕ) (v : Known) (n : ℕ) (o : Option Held) → slice_get v.crew j ≡ o → IsSome o → StaysWithinAt j v → StaysWithinAt j (moved j v n)
 stays-by j v n None e isthere stays = absurd cc
 stays-by j v n (Some h) e isthere stays = λ g there.
-    subst (λ (k : Held). StaysWithin v.machine k.0 k.1) (same-held (held_after v.machine h n) g (sym (get-moved j v n h e) ∙ there))
+    subst (λ (k : Held). StaysWithin v.machine k.0 k.1) (same_Some (held_after v.machine h n) g (sym (get-moved j v n h e) ∙ there))
     (stays-after v.machine h.0 h.1 (told_by (next_of v.machine (policy_answer v.machine.policy) h.0 h.1) n) (stays h e))
 
 pub stays-moved : (j : ℕ) (v : Known) (n : ℕ) → IsSome (slice_get v.crew j) → StaysWithinAt j v → StaysWithinAt j (moved j v n)

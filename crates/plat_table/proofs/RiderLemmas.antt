@@ -1,11 +1,13 @@
 -- riders: their actors and what their seats know
-use Rattle.std.proofs.Common.{◌≡◌, ℕ, zero, suc, ◌+◌, ◌-◌, ◌/◌, ◌<◌, ◌≤◌, Bool, true, false, List, [], ◌∷◌, ◌++◌, length, map, set, take, drop, refl, sym, ap, ◌∙◌, subst, arith}
+use Rattle.std.proofs.Common.{◌≡◌, ℕ, zero, suc, ◌+◌, ◌-◌, ◌/◌, ◌<◌, ◌≤◌, Bool, true, false, List, [], ◌∷◌, ◌++◌, length, map, set, take}
+use Rattle.std.proofs.Common.{drop, refl, sym, ap, ◌∙◌, subst, arith}
 use Rattle.std.specs.Prelude.{not, All, if◌then◌else◌, IsTrue, Option, Some, slice_get, slice_index_or}
 use Rattle.std.specs.Option.{option_map}
 use Rattle.std.proofs.lemmas.Option.{slice_get-map, slice_get_read, slice_get_within}
 use Rattle.std.proofs.lemmas.List.{length-map, length-append, map-set, map-append}
 use Rattle.std.proofs.lemmas.List.Elements.{All-set, All-append, All-take, All-drop}
 use Rattle.std.specs.List.{take-map, drop-map}
+use Rattle.std.proofs.lemmas.Bool.{not-true}
 use Rattle.plat_base.proofs.LimitLemmas.{limits_of}
 use Rattle.plat_base.specs.Machine.{Machine, is_machine}
 use Rattle.plat_base.specs.Rules.{has_daemon}
@@ -131,11 +133,6 @@ went-by me now actors at x y went r there moved is =
     ap (λ (z : Me ℕ Known). slice_get z.0.crew at) moved.seat
     ∙ get-set_same me.0.crew at (held m y) (slice_get_within me.0.crew at (held m x) stood) in
     is ∙ ap (λ p. went_to (not (is_over p))) (sym (place-in m y.part)) ∙ ap (λ (o : Option Held). went_to (is_live_in o)) (sym stands)
-
--- an actor that is live in the seat has not ended
-not-true : (b : Bool) → not b ≡ true → b ≡ false
-not-true true h = absurd cc
-not-true false h = refl
 
 pub goes-on :
     (m : Machine) (crew : List Held) (at : ℕ) (x : Actor) → slice_get crew at ≡ Some (held m x) → is_live_at crew at ≡ true

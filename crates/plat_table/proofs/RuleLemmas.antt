@@ -19,7 +19,8 @@ use Rattle.atomic_table.specs.Table.{Step, Me, Allows, Splits, Joins, keeps}
 use Rattle.atomic_table.specs.Seated.{TableId}
 use Rattle.atomic_table.proofs.Lists.{at_map, set_else}
 use Rattle.plat_table.specs.Ports.{IsAtItsTable}
-use Rattle.plat_table.specs.Rule.{Held, Known, Kept, Holds, AreStatesIn, crew_of, kept_of, low_half, high_half, both_of, nobody, told_by, crew_after, moved, Makes, served_in, served}
+use Rattle.plat_table.specs.Rule.{Held, Known, Kept, Holds, AreStatesIn, crew_of, kept_of, low_half, high_half, both_of, nobody, told_by}
+use Rattle.plat_table.specs.Rule.{crew_after, moved, Makes, served_in, served}
 use Rattle.plat_table.proofs.RunLemmas.{reached-event}
 use Rattle.plat_table.proofs.CrewLemmas.{All-at, All-get, times-set, times-halves, times-append, times_in-set, times_in-more, crews-here}
 

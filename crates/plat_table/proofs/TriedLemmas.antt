@@ -3,6 +3,7 @@ use Rattle.std.proofs.Common.{◌≡◌, ℕ, Bool, true, false, List, [], ◌�
 use Rattle.std.proofs.lemmas.List.{map-append}
 use Rattle.std.specs.Prelude.{not, All}
 use Rattle.std.proofs.lemmas.List.Elements.{All-nil, All-cons}
+use Rattle.std.proofs.lemmas.Bool.{not-false}
 use Rattle.plat_events.specs.Privates.{actor_count, is_over}
 use Rattle.plat_table.specs.Riders.{is_live_at, numbers_of}
 use Rattle.plat_base.specs.Machine.{Machine}
@@ -25,10 +26,6 @@ pub joined :
     (xs ys zs : List Held) (a b : ℕ) → numbers_of xs ≡ a ∷ [] → numbers_of ys ≡ b ∷ [] → zs ≡ xs ++ ys → numbers_of zs ≡ a ∷ b ∷ []
 joined xs ys zs a b e f g =
     ap numbers_of g ∙ map-append (λ (h : Held). h.0) xs ys ∙ ap (λ ns. ns ++ numbers_of ys) e ∙ ap (λ ns. a ∷ ns) f
-
-not-false : (b : Bool) → not b ≡ false → b ≡ true
-not-false true h = refl
-not-false false h = absurd cc
 
 pub both_over :
     (crew : List Held) (a b : ℕ) → numbers_of crew ≡ a ∷ b ∷ [] → is_live_at crew 0 ≡ false → is_live_at crew 1 ≡ false

@@ -1,5 +1,6 @@
 -- a rider as its contracts see it, and what it does
-use Rattle.std.specs.Prelude.{◌≡◌, ℕ, ◌+◌, ◌<◌, ◌≤◌, not, Bool, false, true, List, [], ◌∷◌, length, map, All, Option, Some, None, IsTrue, slice_get, slice_set}
+use Rattle.std.specs.Prelude.{◌≡◌, ℕ, ◌+◌, ◌<◌, ◌≤◌, not, Bool, false, true, List, [], ◌∷◌, length, map, All, Option, Some, None, IsTrue}
+use Rattle.std.specs.Prelude.{slice_get, slice_set}
 use Rattle.plat_base.specs.Machine.{Machine, is_machine}
 use Rattle.plat_base.specs.Verdicts.{policy_answer}
 use Rattle.plat_base.specs.declared.words.Op.{Op}

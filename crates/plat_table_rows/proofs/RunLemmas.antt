@@ -1,10 +1,12 @@
 -- actors that have ended, all actors of a machine, and their journals
-use Rattle.std.proofs.Common.{◌≡◌, ℕ, zero, suc, ◌+◌, ◌<◌, Bool, true, false, List, [], ◌∷◌, length, map, refl, sym, ap, ◌∙◌, subst, inl, inr, arith}
+use Rattle.std.proofs.Common.{◌≡◌, ℕ, zero, suc, ◌+◌, ◌<◌, Bool, true, false, List, [], ◌∷◌, length, map, refl, sym, ap, ◌∙◌, subst, inl}
+use Rattle.std.proofs.Common.{inr, arith}
 use Rattle.std.specs.Prelude.{◌⊎◌, not, All, replicate, slice_index_or}
 use Rattle.std.specs.Option.{option_to_list}
 use Rattle.std.proofs.Math.Nat.{eq-or-lt_of_le}
 use Rattle.std.proofs.lemmas.List.{length-map, length-append, length-replicate}
 use Rattle.std.proofs.lemmas.List.FromFn.{length-range_with_len}
+use Rattle.std.proofs.lemmas.Bool.{not-false}
 use Rattle.plat_base.specs.Machine.{Machine}
 use Rattle.plat_base.specs.Pages.{numbers}
 use Rattle.plat_base.specs.Rooms.{journal_rooms, processor_room, daemon_room}
@@ -15,11 +17,8 @@ use Rattle.plat_table.specs.Rule.{Held, held_first}
 
 -- ---- the end of every actor
 
-not-false : (b : Bool) → not b ≡ false → b ≡ true
-not-false true h = refl
-not-false false h = absurd cc
-
-over-at : (crew : List Held) (k : ℕ) (d : Held) → is_live_at crew k ≡ false → k < length crew → is_over (slice_index_or crew k d).1.place ≡ true
+over-at : (crew : List Held) (k : ℕ) (d : Held) → is_live_at crew k ≡ false → k < length crew → is_over (slice_index_or crew k d).1.place
+    ≡ true
 over-at [] k d e b = absurd (omega arith)
 over-at (h ∷ crew) zero d e b = not-false (is_over h.1.place) e
 over-at (h ∷ crew) (suc k) d e b = over-at crew k d e (omega arith)
@@ -37,7 +36,8 @@ one-more :
 one-more crew n k below here b (inr less) = below.ended k less
 one-more crew n k below here b (inl same) = subst (λ (j : ℕ). is_live_at crew j ≡ false) (sym same) here
 
-pub one_more : (crew : List Held) (n : ℕ) (live : Bool) → AreOverBelow crew n → live ≡ is_live_at crew n → live ≡ false → AreOverBelow crew (n + 1)
+pub one_more : (crew : List Held) (n : ℕ) (live : Bool) → AreOverBelow crew n → live ≡ is_live_at crew n → live ≡ false →
+    AreOverBelow crew (n + 1)
 one_more crew n live below e f = record { ended = λ k b. one-more crew n k below (sym e ∙ f) b (eq-or-lt_of_le (omega (arith, b))) }
 
 pub all_ended : (crew : List Held) (n : ℕ) → AreOverBelow crew n → n ≡ length crew → All (λ (h : Held). is_over h.1.place ≡ true) crew

@@ -1,5 +1,6 @@
 -- a canonical text is not longer than a text with its word lists
-use Rattle.std.proofs.Common.{◌≡◌, ℕ, suc, zero, ◌+◌, ◌<◌, ◌≤◌, Bool, true, false, not, cond, eqb, List, [], ◌∷◌, ◌++◌, length, map, refl, ap, sym, ◌∙◌, arith, length-append}
+use Rattle.std.proofs.Common.{◌≡◌, ℕ, suc, zero, ◌+◌, ◌<◌, ◌≤◌, Bool, true, false, not, cond, eqb, List, [], ◌∷◌, ◌++◌, length, map, refl}
+use Rattle.std.proofs.Common.{ap, sym, ◌∙◌, arith, length-append}
 use Rattle.std.specs.List.{AllByRecursion, slice_split, flat_map, filter}
 use Rattle.std.proofs.lemmas.Bool.{eqb-true}
 use Rattle.std.proofs.lemmas.Bool.Decides.{nat_tests}
@@ -22,7 +23,12 @@ others-size (w ∷ ws) = omega (arith, length-append w (flat_map (λ v. 32 ∷ v
 
 line-size : (l : List (List ℕ)) → has_words l ≡ true → length (line_bytes l) ≡ list_size l
 line-size [] h = cc
-line-size (w ∷ ws) h = omega (arith, length-append w (flat_map (λ v. 32 ∷ v) ws ++ 10 ∷ []), length-append (flat_map (λ v. 32 ∷ v) ws) (10 ∷ []), others-size ws)
+line-size (w ∷ ws) h = omega (
+  arith,
+  length-append w (flat_map (λ v. 32 ∷ v) ws ++ 10 ∷ []),
+  length-append (flat_map (λ v. 32 ∷ v) ws) (10 ∷ []),
+  others-size ws,
+)
 
 pub text_bytes-size : (lines : List (List (List ℕ))) → AreLines lines → length (text_bytes lines) ≡ lists_size lines
 text_bytes-size [] h = refl
@@ -31,7 +37,8 @@ text_bytes-size (l ∷ ls) h = omega (arith, length-append (line_bytes l) (text_
 pub word_lists-are_lines : (ls : List LineText) → AreLines (word_lists ls)
 word_lists-are_lines [] = tt
 word_lists-are_lines (l ∷ ls) = by_test (has_words (line_words l)) refl (word_lists-are_lines ls) where
-  by_test : (v : Bool) → has_words (line_words l) ≡ v → AreLines (word_lists ls) → AreLines (cond v (line_words l ∷ word_lists ls) (word_lists ls))
+  by_test : (v : Bool) → has_words (line_words l) ≡ v → AreLines (word_lists ls) →
+      AreLines (cond v (line_words l ∷ word_lists ls) (word_lists ls))
   by_test true t h = (t, h)
   by_test false t h = h
 
@@ -43,11 +50,13 @@ list-size-le l = omega (arith, spelled-size (words_of l.bytes), words_of-size l.
 lists-size-le : (ls : List LineText) → lists_size (word_lists ls) ≤ lines_size ls
 lists-size-le [] = omega arith
 lists-size-le (l ∷ ls) = by_test (has_words (line_words l)) (lists-size-le ls) where
-  by_test : (v : Bool) → lists_size (word_lists ls) ≤ lines_size ls → lists_size (cond v (line_words l ∷ word_lists ls) (word_lists ls)) ≤ length l.bytes + 1 + lines_size ls
+  by_test : (v : Bool) → lists_size (word_lists ls) ≤ lines_size ls →
+      lists_size (cond v (line_words l ∷ word_lists ls) (word_lists ls)) ≤ length l.bytes + 1 + lines_size ls
   by_test true h = omega (arith, h, list-size-le l)
   by_test false h = omega (arith, h)
 
-ended-size : (n : ℕ) (ps : List (List ℕ)) → 0 < length ps → AllByRecursion IsClean (numbered n ps) → lines_size (numbered n ps) + 1 ≡ parts_size ps
+ended-size : (n : ℕ) (ps : List (List ℕ)) → 0 < length ps → AllByRecursion IsClean (numbered n ps) →
+    lines_size (numbered n ps) + 1 ≡ parts_size ps
 ended-size n [] some h = absurd (omega arith)
 ended-size n (p ∷ []) some h = by_test (is_empty p) refl h where
   by_test : (v : Bool) → is_empty p ≡ v → AllByRecursion IsClean (cond v [] (record { number = n; bytes = p; ended = false } ∷ []))
@@ -56,7 +65,8 @@ ended-size n (p ∷ []) some h = by_test (is_empty p) refl h where
   by_test false t h = absurd (let e : false ≡ true = h.0.ended in cc)
 ended-size n (p ∷ q ∷ ps) some h = omega (arith, ended-size (n + 1) (q ∷ ps) (omega arith) h.1)
 
-pub canonical-le : (n : ℕ) (bytes : List ℕ) → AllByRecursion IsClean (lines_of n bytes) → length (text_bytes (word_lists (lines_of n bytes))) ≤ length bytes
+pub canonical-le : (n : ℕ) (bytes : List ℕ) → AllByRecursion IsClean (lines_of n bytes) →
+    length (text_bytes (word_lists (lines_of n bytes))) ≤ length bytes
 unfolding lines_of
 canonical-le n bytes h =
     let parts = slice_split is_feed bytes in

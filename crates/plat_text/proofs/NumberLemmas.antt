@@ -1,11 +1,13 @@
 -- numbers and their one spelling
-use Rattle.std.proofs.Common.{◌≡◌, ℕ, suc, zero, ◌+◌, ◌*◌, ◌^◌, ◌<◌, ◌≤◌, Bool, true, false, not, ◌&&◌, ◌||◌, cond, eqb, ltb, List, [], ◌∷◌, length, drop, get_or, Result, Ok, Err, ◌⊎◌, inl, inr, ⊎_elim, refl, ap, sym, ◌∙◌, arith, rules}
+use Rattle.std.proofs.Common.{◌≡◌, ℕ, suc, zero, ◌+◌, ◌*◌, ◌^◌, ◌<◌, ◌≤◌, Bool, true, false, not, ◌&&◌, ◌||◌, cond, eqb, ltb, List, [], ◌∷◌}
+use Rattle.std.proofs.Common.{length, drop, get_or, Result, Ok, Err, ◌⊎◌, inl, inr, ⊎_elim, refl, ap, sym, ◌∙◌, arith, rules}
 use Rattle.std.specs.List.{list_all}
 use Rattle.std.specs.Char.{is_ascii_digit, digit_value}
 use Rattle.std.specs.Str.Parse.{digits_value, digits_value_after}
 use Rattle.std.specs.Fmt.{decimal}
 use Rattle.std.proofs.lemmas.Str.Parse.{IsNumeralModel, numerals_by_value}
-use Rattle.std.proofs.lemmas.Fmt.{decimal-digits_value, digits_decimal, digits_value-decimal, first_decimal, decimal_nonempty, decimal_digit}
+use Rattle.std.proofs.lemmas.Fmt.{decimal-digits_value, digits_decimal, digits_value-decimal, first_decimal, decimal_nonempty}
+use Rattle.std.proofs.lemmas.Fmt.{decimal_digit}
 use Rattle.std.proofs.Math.Nat.{le_trans}
 use Rattle.std.proofs.lemmas.Bool.{and_parts, and_from, ltb-true}
 use Rattle.plat_text.proofs.Results.{ok_is}
@@ -30,13 +32,16 @@ unfolding number_of
 number_of-large w e large = let t : ltb (digits_value 10 w) (2 ^ 32) ≡ false = grind (arith, nat_tests) in rw (e, t) refl
 
 -- the value after all digits
-pub number_at_end : (w : List ℕ) (i n : ℕ) → is_spelling w ≡ true → length w ≤ i → digits_value_after 10 n (drop i w) ≡ digits_value 10 w → n < 2 ^ 32 → Ok n ≡ number_of w
+pub number_at_end : (w : List ℕ) (i n : ℕ) → is_spelling w ≡ true → length w ≤ i → digits_value_after 10 n (drop i w) ≡ digits_value 10 w →
+    n < 2 ^ 32 → Ok n ≡ number_of w
 number_at_end w i n e past v small = sym (number_of-small w n e (sym v ∙ at_drop_all (digits_value_after 10 n) w i past) small)
 
 -- one digit more makes it too large
-pub number_too_large : (w : List ℕ) (i n : ℕ) → is_spelling w ≡ true → i < length w → digits_value_after 10 n (drop i w) ≡ digits_value 10 w → 2 ^ 32 ≤ n * 10 + digit_value (get_or w i 0) → Err TooLarge ≡ number_of w
+pub number_too_large : (w : List ℕ) (i n : ℕ) → is_spelling w ≡ true → i < length w → digits_value_after 10 n (drop i w)
+    ≡ digits_value 10 w → 2 ^ 32 ≤ n * 10 + digit_value (get_or w i 0) → Err TooLarge ≡ number_of w
 number_too_large w i n e inside v large =
-    let step : digits_value_after 10 n (drop i w) ≡ digits_value_after 10 (n * 10 + digit_value (get_or w i 0)) (drop (i + 1) w) = at_drop_more (digits_value_after 10 n) w i 0 inside in
+    let step : digits_value_after 10 n (drop i w) ≡ digits_value_after 10 (n * 10 + digit_value (get_or w i 0)) (drop (i + 1) w) =
+    at_drop_more (digits_value_after 10 n) w i 0 inside in
     sym (number_of-large w e (omega (arith, value_grows (n * 10 + digit_value (get_or w i 0)) (drop (i + 1) w), v, step, large)))
 
 -- ---- the one spelling of a number

@@ -1,17 +1,20 @@
 -- the bytes of lines of plain words are read as these lines again
-use Rattle.std.proofs.Common.{◌≡◌, ℕ, zero, suc, ◌+◌, ◌^◌, ◌<◌, ◌≤◌, Bool, true, false, not, ◌&&◌, eqb, leb, List, [], ◌∷◌, ◌++◌, length, take, drop, refl, ap, ◌∙◌, arith, append_assoc, append-nil, take_all}
+use Rattle.std.proofs.Common.{◌≡◌, ℕ, zero, suc, ◌+◌, ◌^◌, ◌<◌, ◌≤◌, Bool, true, false, not, ◌&&◌, eqb, leb, List, [], ◌∷◌, ◌++◌, length}
+use Rattle.std.proofs.Common.{take, drop, refl, ap, ◌∙◌, arith, append_assoc, append-nil, take_all}
 use Rattle.std.specs.List.{AllByRecursion, list_all, slice_split, onto_first, flat_map, filter, position_or_len}
 use Rattle.std.specs.Char.{is_ascii_digit}
 use Rattle.std.specs.Fmt.{decimal}
 use Rattle.std.proofs.lemmas.Bool.{and_parts, and_from, not-true, not_from_false}
 use Rattle.std.proofs.lemmas.Bool.Decides.{nat_tests}
 use Rattle.std.proofs.lemmas.List.Splits.{slice_split-cons_yes, slice_split-cons_no, length-slice_split}
-use Rattle.plat_grammar.specs.Lines.{LineText, is_feed, is_space, is_hash, is_empty, lines_of, numbered, uncommented, placed, has_bytes, words_at, texts}
+use Rattle.plat_grammar.specs.Lines.{LineText, is_feed, is_space, is_hash, is_empty, lines_of, numbered, uncommented, placed, has_bytes}
+use Rattle.plat_grammar.specs.Lines.{words_at, texts}
 use Rattle.plat_base.specs.Text.{text_bytes}
 use Rattle.plat_base.specs.Labels.{is_label_byte, is_small_letter, is_label_name}
 use Rattle.plat_grammar.specs.Grammar.{IsClean, line_words, has_words, word_lists}
 use Rattle.plat_text.proofs.LineLemmas.{numbered-more, lines_of-nil}
 use Rattle.plat_text.proofs.NumberLemmas.{decimal-spelling}
+use Rattle.plat_base.proofs.ListLemmas.{all-passed}
 
 -- ---- all elements of a list
 
@@ -29,18 +32,15 @@ all-drop P zero xs h = h
 all-drop P (suc n) [] h = tt
 all-drop P (suc n) (x ∷ xs) h = all-drop P n xs h.1
 
--- what holds of each that passes a test, where all pass
-pub all-passed : {A : Type 0} {P : A → Type 0} (p : A → Bool) → ((x : A) → p x ≡ true → P x) → (xs : List A) → list_all p xs ≡ true → AllByRecursion P xs
-all-passed p f [] h = tt
-all-passed p f (x ∷ xs) h = let parts = and_parts (p x) (list_all p xs) h in (f x parts.0, all-passed p f xs parts.1)
-
 pub all-each : {A : Type 0} {P Q : A → Type 0} → ((x : A) → P x → Q x) → (xs : List A) → AllByRecursion P xs → AllByRecursion Q xs
 all-each f [] h = tt
 all-each f (x ∷ xs) h = (f x h.0, all-each f xs h.1)
 
-tests-follow : {A : Type 0} (p q : A → Bool) → ((x : A) → p x ≡ true → q x ≡ true) → (xs : List A) → list_all p xs ≡ true → list_all q xs ≡ true
+tests-follow : {A : Type 0} (p q : A → Bool) → ((x : A) → p x ≡ true → q x ≡ true) → (xs : List A) → list_all p xs ≡ true →
+    list_all q xs ≡ true
 tests-follow p q f [] h = refl
-tests-follow p q f (x ∷ xs) h = let parts = and_parts (p x) (list_all p xs) h in and_from (q x) (list_all q xs) (f x parts.0) (tests-follow p q f xs parts.1)
+tests-follow p q f (x ∷ xs) h = let parts = and_parts (p x) (list_all p xs) h in
+    and_from (q x) (list_all q xs) (f x parts.0) (tests-follow p q f xs parts.1)
 
 -- ---- plain words: they have bytes, and each is printable and neither a space nor a #
 
@@ -118,14 +118,18 @@ more_words ws = flat_map (λ v. 32 ∷ v) ws
 
 more-in_line : (ws : List (List ℕ)) → AllByRecursion IsPlain ws → AllByRecursion InLine (more_words ws)
 more-in_line [] h = tt
-more-in_line (w ∷ ws) h = ((omega arith, omega arith, refl), all-append InLine w (more_words ws) (all-passed is_plain plain-in_line w (bytes_of w h.0)) (more-in_line ws h.1))
+more-in_line (w ∷ ws) h = (
+  (omega arith, omega arith, refl),
+  all-append InLine w (more_words ws) (all-passed is_plain plain-in_line w (bytes_of w h.0)) (more-in_line ws h.1),
+)
 
 words-in_line : (w : List ℕ) (ws : List (List ℕ)) → IsPlain w → AllByRecursion IsPlain ws → AllByRecursion InLine (w ++ more_words ws)
 words-in_line w ws h hs = all-append InLine w (more_words ws) (all-passed is_plain plain-in_line w (bytes_of w h)) (more-in_line ws hs)
 
 -- ---- cutting at a byte
 
-split_front : (p : ℕ → Bool) (xs : List ℕ) (y : ℕ) (ys : List ℕ) → AllByRecursion (λ x. p x ≡ false) xs → p y ≡ true → slice_split p (xs ++ y ∷ ys) ≡ xs ∷ slice_split p ys
+split_front : (p : ℕ → Bool) (xs : List ℕ) (y : ℕ) (ys : List ℕ) → AllByRecursion (λ x. p x ≡ false) xs → p y ≡ true →
+    slice_split p (xs ++ y ∷ ys) ≡ xs ∷ slice_split p ys
 split_front p [] y ys h e = slice_split-cons_yes p y ys e
 split_front p (x ∷ xs) y ys h e = slice_split-cons_no p x (xs ++ y ∷ ys) h.0 ∙ ap (onto_first x) (split_front p xs y ys h.1 e)
 
@@ -138,10 +142,12 @@ split_none p (x ∷ xs) h = slice_split-cons_no p x xs h.0 ∙ ap (onto_first x)
 no_spaces : (w : List ℕ) → IsPlain w → AllByRecursion (λ b. is_space b ≡ false) w
 no_spaces w h = all-passed is_plain plain-no_space w (bytes_of w h)
 
-first_kept : (c : ℕ) (w : List ℕ) (parts : List (List ℕ)) → IsPlain w → texts (filter has_bytes (placed c (w ∷ parts))) ≡ w ∷ texts (filter has_bytes (placed (c + length w + 1) parts))
+first_kept : (c : ℕ) (w : List ℕ) (parts : List (List ℕ)) → IsPlain w → texts (filter has_bytes (placed c (w ∷ parts)))
+    ≡ w ∷ texts (filter has_bytes (placed (c + length w + 1) parts))
 first_kept c w parts h = rw (nonempty w h) refl
 
-words-again : (c : ℕ) (w : List ℕ) (ws : List (List ℕ)) → IsPlain w → AllByRecursion IsPlain ws → texts (words_at c (w ++ more_words ws)) ≡ w ∷ ws
+words-again : (c : ℕ) (w : List ℕ) (ws : List (List ℕ)) → IsPlain w → AllByRecursion IsPlain ws → texts (words_at c (w ++ more_words ws))
+    ≡ w ∷ ws
 unfolding words_at
 words-again c w [] h hs =
     ap (λ k. texts (filter has_bytes (placed c (slice_split is_space k)))) (append-nil w)
@@ -163,13 +169,15 @@ uncommented-whole line h = take_all (position_or_len is_hash line) line (no_hash
 
 -- ---- lines
 
-line-front : (n : ℕ) (line rest : List ℕ) → AllByRecursion InLine line → lines_of n (line ++ 10 ∷ rest) ≡ record { number = n; bytes = line; ended = true } ∷ lines_of (n + 1) rest
+line-front : (n : ℕ) (line rest : List ℕ) → AllByRecursion InLine line →
+    lines_of n (line ++ 10 ∷ rest) ≡ record { number = n; bytes = line; ended = true } ∷ lines_of (n + 1) rest
 unfolding lines_of
 line-front n line rest h =
     ap (numbered n) (split_front is_feed line 10 rest (all-each in_line-no_feed line h) refl)
     ∙ numbered-more n line (slice_split is_feed rest) (omega (arith, length-slice_split is_feed rest))
 
-first_line : (w : List ℕ) (ws : List (List ℕ)) (ls : List (List (List ℕ))) → text_bytes ((w ∷ ws) ∷ ls) ≡ (w ++ more_words ws) ++ 10 ∷ text_bytes ls
+first_line : (w : List ℕ) (ws : List (List ℕ)) (ls : List (List (List ℕ))) →
+    text_bytes ((w ∷ ws) ∷ ls) ≡ (w ++ more_words ws) ++ 10 ∷ text_bytes ls
 first_line w ws ls = joined w (more_words ws) (text_bytes ls) where
   joined : (a b c : List ℕ) → (a ++ (b ++ 10 ∷ [])) ++ c ≡ (a ++ b) ++ 10 ∷ c
   joined a b c = simp append_assoc
@@ -183,8 +191,10 @@ printed b h = (h.0, h.1)
 clean_line : (n : ℕ) (line : List ℕ) → AllByRecursion InLine line → IsClean (full_line n line)
 clean_line n line h = record { ended = refl; bytes = rw (uncommented-whole line h) (all-each printed line h) }
 
-full_line-words : (n : ℕ) (w : List ℕ) (ws : List (List ℕ)) → IsPlain w → AllByRecursion IsPlain ws → line_words (full_line n (w ++ more_words ws)) ≡ w ∷ ws
-full_line-words n w ws h hs = ap (λ k. texts (words_at 1 k)) (uncommented-whole (w ++ more_words ws) (words-in_line w ws h hs)) ∙ words-again 1 w ws h hs
+full_line-words : (n : ℕ) (w : List ℕ) (ws : List (List ℕ)) → IsPlain w → AllByRecursion IsPlain ws →
+    line_words (full_line n (w ++ more_words ws)) ≡ w ∷ ws
+full_line-words n w ws h hs = ap (λ k. texts (words_at 1 k)) (uncommented-whole (w ++ more_words ws) (words-in_line w ws h hs))
+    ∙ words-again 1 w ws h hs
 
 pub record AreAgain (read : List LineText) (lines : List (List (List ℕ))) : Type 0 where
   pub clean : AllByRecursion IsClean read
@@ -197,7 +207,8 @@ lines-again n ((w ∷ ws) ∷ ls) h =
     let plain = h.0.1 in
     let line : List ℕ = w ++ more_words ws in
     let whole : AllByRecursion InLine line = words-in_line w ws plain.0 plain.1 in
-    let cut : lines_of n (text_bytes ((w ∷ ws) ∷ ls)) ≡ full_line n line ∷ lines_of (n + 1) (text_bytes ls) = ap (lines_of n) (first_line w ws ls) ∙ line-front n line (text_bytes ls) whole in
+    let cut : lines_of n (text_bytes ((w ∷ ws) ∷ ls)) ≡ full_line n line ∷ lines_of (n + 1) (text_bytes ls) =
+    ap (lines_of n) (first_line w ws ls) ∙ line-front n line (text_bytes ls) whole in
     let others = lines-again (n + 1) ls h.1 in
     rw cut (record {
       clean = (clean_line n line whole, others.clean);

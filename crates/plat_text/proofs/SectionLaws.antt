@@ -1,12 +1,14 @@
 -- sections of a text: what is read of rows is spelled so, and what is spelled so is read
-use Rattle.std.proofs.Common.{◌≡◌, ℕ, suc, zero, ◌+◌, ◌<◌, ◌≤◌, Bool, true, false, not, ◌&&◌, ◌||◌, cond, List, [], ◌∷◌, ◌++◌, length, map, Option, Some, None, Result, Ok, Err, bytes_eq, refl, ap, sym, ◌∙◌, subst, arith, append_assoc, ⊎_elim}
+use Rattle.std.proofs.Common.{◌≡◌, ℕ, suc, zero, ◌+◌, ◌<◌, ◌≤◌, Bool, true, false, not, ◌&&◌, ◌||◌, cond, List, [], ◌∷◌, ◌++◌, length, map}
+use Rattle.std.proofs.Common.{Option, Some, None, Result, Ok, Err, bytes_eq, refl, ap, sym, ◌∙◌, subst, arith, append_assoc, ⊎_elim}
 use Rattle.std.specs.List.{AllByRecursion, list_any}
 use Rattle.std.proofs.lemmas.Bool.{cases_Bool, and_parts, and_from, or_parts, or_from, not-true, not_from_false}
 use Rattle.std.proofs.lemmas.List.{append-nil}
 use Rattle.std.proofs.lemmas.Slice.Eq.{bytes_eq-Decides}
 use Rattle.plat_grammar.specs.Lines.{Word, texts}
 use Rattle.plat_base.specs.Machine.{all_differ}
-use Rattle.plat_grammar.specs.Forms.{◌>>=◌, Row, Rest, Stop, word_at, first_word, row_at, key, opened, line_at, once, repeated, all_with, refused, row_length, spelled_size}
+use Rattle.plat_grammar.specs.Forms.{◌>>=◌, Row, Rest, Stop, word_at, first_word, row_at, key, opened, line_at, once, repeated, all_with}
+use Rattle.plat_grammar.specs.Forms.{refused, row_length, spelled_size}
 use Rattle.plat_base.specs.declared.faults.Refused.{Refused}
 use Rattle.plat_base.specs.declared.faults.Why.TheVariants.{Duplicate}
 use Rattle.plat_text.proofs.Results.{taking, then_ok, ok_is, ok_first, ok_second, stopped}
@@ -62,7 +64,8 @@ pub took_lists : (a b : Rest) (ls : List (List (List ℕ))) → Took a b ls → 
 took_lists a b ls t = ap row_lists t.rows ∙ row_lists-append t.taken b.rows ∙ ap (λ k. k ++ rest_lists b) t.lists
 
 -- a section: as a form, over rows; what follows it may have to begin in some way
-pub record IsSection {A B : Type 0} (read : Rest → Result (A × Rest) Refused) (sees : A → B) (spell : B → List (List (List ℕ))) (fits : B → Type 0) (stops : List (List (List ℕ)) → Type 0) : Type 0 where
+pub record IsSection {A B : Type 0} (read : Rest → Result (A × Rest) Refused) (sees : A → B) (spell : B → List (List (List ℕ))) (fits : B →
+    Type 0) (stops : List (List (List ℕ)) → Type 0) : Type 0 where
   pub takes : (rest : Rest) (x : A) (after : Rest) → read rest ≡ Ok (x, after) → Took rest after (spell (sees x)) × fits (sees x)
   pub again : (rest : Rest) (y : B) (more : List (List (List ℕ))) → fits y → stops more → rest_lists rest ≡ spell y ++ more
       → (x : A) × (after : Rest) × (read rest ≡ Ok (x, after)) × (sees x ≡ y) × (rest_lists after ≡ more)
@@ -86,7 +89,8 @@ pub row_there : (rest : Rest) (line : List (List ℕ)) (more : List (List (List 
     → (row : Row) × (after : Rest) × (row_at rest ≡ Ok (row, after)) × (row_texts row ≡ line) × (rest_lists after ≡ more)
 row_there rest line more e = by_rows rest.rows e where
   by_rows : (rows : List Row) → row_lists rows ≡ line ∷ more
-      → (row : Row) × (after : Rest) × (row_at (record rest { rows = rows }) ≡ Ok (row, after)) × (row_texts row ≡ line) × (rest_lists after ≡ more)
+      → (row : Row) × (after : Rest) × (row_at (record rest { rows = rows }) ≡ Ok (row, after)) × (row_texts row ≡ line)
+      × (rest_lists after ≡ more)
   by_rows [] e = absurd cc
   by_rows (row ∷ rows) e = (row, record rest { given = rest.given + row_length row; rows = rows }, refl, cc, cc)
 
@@ -94,7 +98,8 @@ module _ (word : List ℕ) where
   key-takes : (row : Row) (after : Row) (u : Unit {0}) → key word row ≡ Ok (u, after) → row_texts row ≡ word ∷ row_texts after
   key-takes row after u e = ((one-law (exactly-law word)).takes row u after e).0
 
-  pub opened-takes : (rest : Rest) (row : Row) (after : Rest) → opened word rest ≡ Ok (row, after) → Took rest after ((word ∷ row_texts row) ∷ [])
+  pub opened-takes : (rest : Rest) (row : Row) (after : Rest) → opened word rest ≡ Ok (row, after) →
+      Took rest after ((word ∷ row_texts row) ∷ [])
   opened-takes rest row after e =
       taking (row_at rest) _ _ e (λ r r-is e1. taking (key word r.0) _ _ e1 (λ o o-is e2.
       let row_is : o.1 ≡ row = ok_first (o.1, r.1) (row, after) e2 in
@@ -109,7 +114,8 @@ module _ (word : List ℕ) where
       (u.1, t.1, then_ok (row_at rest) _ (t.0, t.1) _ t.2 (then_ok (key word t.0) _ (u.0, u.1) _ u.2 refl), u.4, t.4)
 
   -- a line with this first word
-  pub line-law : {A B : Type 0} {read : Row → Result A Refused} {sees : A → B} {spell : B → List (List ℕ)} {fits : B → Type 0} → IsTail read sees spell fits
+  pub line-law : {A B : Type 0} {read : Row → Result A Refused} {sees : A → B} {spell : B → List (List ℕ)} {fits : B → Type 0} →
+      IsTail read sees spell fits
       → IsSection (line_at word read) sees (λ y. (word ∷ spell y) ∷ []) fits (λ _. Unit {0})
   line-law {read = read} {sees = sees} {spell = spell} {fits = fits} law = record {
     takes = λ rest x after e. taking (opened word rest) _ _ e (λ r r-is e1. taking (read r.0) _ _ e1 (λ v v-is e2.
@@ -124,7 +130,9 @@ module _ (word : List ℕ) where
   }
 
 -- a section without places gives just its value
-pub again_exactly : {B : Type 0} {read : Rest → Result (B × Rest) Refused} {spell : B → List (List (List ℕ))} {fits : B → Type 0} {stops : List (List (List ℕ)) → Type 0}
-    → IsSection read (λ x. x) spell fits stops → (rest : Rest) (y : B) (more : List (List (List ℕ))) → fits y → stops more → rest_lists rest ≡ spell y ++ more
+pub again_exactly : {B : Type 0} {read : Rest → Result (B × Rest) Refused} {spell : B → List (List (List ℕ))} {fits : B → Type 0}
+    {stops : List (List (List ℕ)) → Type 0}
+    → IsSection read (λ x. x) spell fits stops → (rest : Rest) (y : B) (more : List (List (List ℕ))) → fits y → stops more →
+    rest_lists rest ≡ spell y ++ more
     → (after : Rest) × (read rest ≡ Ok (y, after)) × (rest_lists after ≡ more)
 again_exactly law rest y more h s e = let t = law.again rest y more h s e in (t.1, t.2 ∙ ap (λ k. Ok (k, t.1)) t.3, t.4)

@@ -1,9 +1,11 @@
 -- how many bytes lines, words and rows have
-use Rattle.std.proofs.Common.{◌≡◌, ℕ, suc, zero, ◌+◌, ◌-◌, ◌<◌, ◌≤◌, Bool, true, false, not, cond, eqb, List, [], ◌∷◌, length, take, drop, refl, ap, sym, ◌∙◌, arith, length-take}
+use Rattle.std.proofs.Common.{◌≡◌, ℕ, suc, zero, ◌+◌, ◌-◌, ◌<◌, ◌≤◌, Bool, true, false, not, cond, eqb, List, [], ◌∷◌, length, take, drop}
+use Rattle.std.proofs.Common.{refl, ap, sym, ◌∙◌, arith, length-take}
 use Rattle.std.specs.List.{slice_split, onto_first, sum_by, filter, before_first, position_or_len, count_by}
 use Rattle.std.proofs.lemmas.Bool.Decides.{nat_tests}
 use Rattle.std.proofs.lemmas.List.Splits.{length-slice_split}
-use Rattle.plat_grammar.specs.Lines.{LineText, Word, is_feed, is_space, is_hash, is_empty, numbered, lines_of, placed, has_bytes, words_at, words_of, uncommented}
+use Rattle.plat_grammar.specs.Lines.{LineText, Word, is_feed, is_space, is_hash, is_empty, numbered, lines_of, placed, has_bytes, words_at}
+use Rattle.plat_grammar.specs.Lines.{words_of, uncommented}
 use Rattle.plat_grammar.specs.Forms.{Row, row_length, spelled_size}
 use Rattle.plat_text.specs.Sizes.{lines_size}
 use Rattle.plat_text.specs.Shown.{row_for}
@@ -20,10 +22,11 @@ onto_first-size x (p ∷ ps) h = omega arith
 
 pub split-size : (p : ℕ → Bool) (xs : List ℕ) → parts_size (slice_split p xs) ≡ length xs + 1
 split-size p [] = refl
-split-size p (x ∷ xs) = elim (p x) as (λ v. parts_size (cond v ([] ∷ slice_split p xs) (onto_first x (slice_split p xs))) ≡ suc (length xs) + 1) [
-  | true ↦ omega (arith, split-size p xs)
-  | false ↦ omega (arith, onto_first-size x (slice_split p xs) (omega (arith, length-slice_split p xs)), split-size p xs)
-]
+split-size p (x ∷ xs) = elim (p x) as (λ v. parts_size (cond v ([] ∷ slice_split p xs) (onto_first x (slice_split p xs)))
+    ≡ suc (length xs) + 1) [
+      | true ↦ omega (arith, split-size p xs)
+      | false ↦ omega (arith, onto_first-size x (slice_split p xs) (omega (arith, length-slice_split p xs)), split-size p xs)
+    ]
 
 placed-size : (c : ℕ) (ps : List (List ℕ)) → spelled_size (placed c ps) ≡ parts_size ps
 placed-size c [] = refl
@@ -31,14 +34,20 @@ placed-size c (p ∷ ps) = ap (λ k. length p + 1 + k) (placed-size (c + length 
 
 filter-size : (ws : List Word) → spelled_size (filter has_bytes ws) ≤ spelled_size ws
 filter-size [] = omega arith
-filter-size (w ∷ ws) = elim (has_bytes w) as (λ v. spelled_size (cond v (w ∷ filter has_bytes ws) (filter has_bytes ws)) ≤ spelled_size (w ∷ ws)) [
-  | true ↦ omega (arith, filter-size ws)
-  | false ↦ omega (arith, filter-size ws)
-]
+filter-size (w ∷ ws) = elim (has_bytes w) as
+    (λ v. spelled_size (cond v (w ∷ filter has_bytes ws) (filter has_bytes ws)) ≤ spelled_size (w ∷ ws)) [
+      | true ↦ omega (arith, filter-size ws)
+      | false ↦ omega (arith, filter-size ws)
+    ]
 
 words_at-size : (c : ℕ) (bytes : List ℕ) → spelled_size (words_at c bytes) ≤ length bytes + 1
 unfolding words_at
-words_at-size c bytes = omega (arith, filter-size (placed c (slice_split is_space bytes)), placed-size c (slice_split is_space bytes), split-size is_space bytes)
+words_at-size c bytes = omega (
+  arith,
+  filter-size (placed c (slice_split is_space bytes)),
+  placed-size c (slice_split is_space bytes),
+  split-size is_space bytes,
+)
 
 pub words_of-size : (line : List ℕ) → spelled_size (words_of line) ≤ length line + 1
 words_of-size line = omega (arith, words_at-size 1 (uncommented line), length-take (position_or_len is_hash line) line)

@@ -1,10 +1,12 @@
 -- the rows of clean lines are their word lists, and there are no others
-use Rattle.std.proofs.Common.{◌≡◌, ℕ, suc, zero, ◌+◌, ◌<◌, ◌≤◌, Bool, true, false, not, ◌||◌, cond, eqb, ltb, List, [], ◌∷◌, ◌++◌, length, map, Option, Some, None, Result, Ok, Err, refl, ap, sym, ◌∙◌, subst, arith, ⊎_elim}
+use Rattle.std.proofs.Common.{◌≡◌, ℕ, suc, zero, ◌+◌, ◌<◌, ◌≤◌, Bool, true, false, not, ◌||◌, cond, eqb, ltb, List, [], ◌∷◌, ◌++◌, length}
+use Rattle.std.proofs.Common.{map, Option, Some, None, Result, Ok, Err, refl, ap, sym, ◌∙◌, subst, arith, ⊎_elim}
 use Rattle.std.specs.List.{AllByRecursion, position, position_or_len, filter}
 use Rattle.std.proofs.lemmas.Bool.{cases_Bool, not-true, false≢true, or_parts, or_from, or_cases, ltb-true, ltb-false, le-ltb, lt-ltb}
 use Rattle.std.proofs.lemmas.Bool.Decides.{nat_tests}
 use Rattle.plat_grammar.specs.Lines.{LineText, Word, uncommented, words_of, texts}
-use Rattle.plat_grammar.specs.Forms.{◌>>=◌, Row, Rest, Stop, finished, broken, refused, is_bad, row_of, no_bad_byte, with_line, rest_of, word_at, over, over_from}
+use Rattle.plat_grammar.specs.Forms.{◌>>=◌, Row, Rest, Stop, finished, broken, refused, is_bad, row_of, no_bad_byte, with_line, rest_of}
+use Rattle.plat_grammar.specs.Forms.{word_at, over, over_from}
 use Rattle.plat_grammar.specs.Grammar.{IsClean, line_words, has_words, word_lists}
 use Rattle.plat_base.specs.declared.faults.Refused.{Refused}
 use Rattle.plat_base.specs.declared.faults.Why.TheVariants.{Unended, BadByte, Extra}
@@ -34,7 +36,8 @@ clean_none bs h = rw (clean_passed bs h, le-ltb (length bs) (length bs) (omega a
 passed_clean : (bs : List ℕ) → length bs ≤ position_or_len is_bad bs → AllByRecursion Printable bs
 passed_clean [] h = tt
 passed_clean (b ∷ bs) h = by_test (is_bad b) refl h (passed_clean bs) where
-  by_test : (v : Bool) → is_bad b ≡ v → suc (length bs) ≤ cond (not v) (1 + position_or_len is_bad bs) 0 → (length bs ≤ position_or_len is_bad bs → AllByRecursion Printable bs)
+  by_test : (v : Bool) → is_bad b ≡ v → suc (length bs) ≤ cond (not v) (1 + position_or_len is_bad bs) 0 →
+      (length bs ≤ position_or_len is_bad bs → AllByRecursion Printable bs)
       → Printable b × AllByRecursion Printable bs
   by_test true e k others = absurd (omega (arith, k))
   by_test false e k others = (printable b e, others (omega (arith, k)))
@@ -47,11 +50,14 @@ row_of-clean l h = rw (h.ended, clean_none (uncommented l.bytes) h.bytes) refl
 
 pub row_of-ok : (l : LineText) (row : Row) → row_of l ≡ Ok row → IsClean l × (line_row l ≡ row)
 row_of-ok l row e = by_ended l.ended refl e where
-  by_bad : (o : Option ℕ) → position is_bad (uncommented l.bytes) ≡ o → no_bad_byte l o ≡ Ok row → AllByRecursion Printable (uncommented l.bytes) × (line_row l ≡ row)
+  by_bad : (o : Option ℕ) → position is_bad (uncommented l.bytes) ≡ o → no_bad_byte l o ≡ Ok row →
+      AllByRecursion Printable (uncommented l.bytes) × (line_row l ≡ row)
   by_bad None p e = (passed_clean (uncommented l.bytes) (position_none is_bad (uncommented l.bytes) p), ok_is (line_row l) row e)
   by_bad (Some i) p e = cc
 
-  by_ended : (v : Bool) → l.ended ≡ v → cond v (no_bad_byte l (position is_bad (uncommented l.bytes))) (Err (refused l.number (length l.bytes + 1) Unended)) ≡ Ok row → IsClean l × (line_row l ≡ row)
+  by_ended : (v : Bool) → l.ended ≡ v →
+      cond v (no_bad_byte l (position is_bad (uncommented l.bytes))) (Err (refused l.number (length l.bytes + 1) Unended)) ≡ Ok row →
+      IsClean l × (line_row l ≡ row)
   by_ended true t e = let u = by_bad (position is_bad (uncommented l.bytes)) refl e in (record { ended = t; bytes = u.0 }, u.1)
   by_ended false t e = cc
 
@@ -69,10 +75,12 @@ some_words (w ∷ ws) = ap (λ n. eqb (suc n) 0) (length-texts ws) where
   length-texts (w ∷ ws) = ap suc (length-texts ws)
 
 -- a line with words is kept, and one without is passed over
-kept : (l : LineText) (rest : Rest) → row_lists (cond (eqb (length (words_of l.bytes)) 0) rest (record rest { rows = line_row l ∷ rest.rows })).rows
+kept : (l : LineText) (rest : Rest) →
+    row_lists (cond (eqb (length (words_of l.bytes)) 0) rest (record rest { rows = line_row l ∷ rest.rows })).rows
     ≡ cond (has_words (line_words l)) (line_words l ∷ rest_lists rest) (rest_lists rest)
 kept l rest = rw (some_words (words_of l.bytes)) (by_test (eqb (length (words_of l.bytes)) 0)) where
-  by_test : (v : Bool) → row_lists (cond v rest (record rest { rows = line_row l ∷ rest.rows })).rows ≡ cond (not v) (line_words l ∷ rest_lists rest) (rest_lists rest)
+  by_test : (v : Bool) → row_lists (cond v rest (record rest { rows = line_row l ∷ rest.rows })).rows
+      ≡ cond (not v) (line_words l ∷ rest_lists rest) (rest_lists rest)
   by_test true = refl
   by_test false = refl
 
@@ -80,11 +88,13 @@ kept_stop : (v : Bool) (row : Row) (rest : Rest) → (cond v rest (record rest {
 kept_stop true row rest = refl
 kept_stop false row rest = refl
 
-pub rows-clean : (n : ℕ) (ls : List LineText) → AllByRecursion IsClean ls → (rest_lists (rest_of n ls) ≡ word_lists ls) × ((last : ℕ) × ((rest_of n ls).stop ≡ finished last))
+pub rows-clean : (n : ℕ) (ls : List LineText) → AllByRecursion IsClean ls → (rest_lists (rest_of n ls) ≡ word_lists ls)
+    × ((last : ℕ) × ((rest_of n ls).stop ≡ finished last))
 rows-clean n [] h = (refl, (n, refl))
 rows-clean n (l ∷ ls) h =
     let u = rows-clean (l.number + 1) ls h.1 in
-    let line : with_line (row_of l) (rest_of (l.number + 1) ls) ≡ with_line (Ok (line_row l)) (rest_of (l.number + 1) ls) = ap (λ r. with_line r (rest_of (l.number + 1) ls)) (row_of-clean l h.0) in (
+    let line : with_line (row_of l) (rest_of (l.number + 1) ls) ≡ with_line (Ok (line_row l)) (rest_of (l.number + 1) ls) =
+    ap (λ r. with_line r (rest_of (l.number + 1) ls)) (row_of-clean l h.0) in (
       ap rest_lists line ∙ kept l (rest_of (l.number + 1) ls) ∙ ap (λ k. cond (has_words (line_words l)) (line_words l ∷ k) k) u.0,
       (u.1.0, ap (λ r. r.stop) line ∙ kept_stop (eqb (length (words_of l.bytes)) 0) (line_row l) (rest_of (l.number + 1) ls) ∙ u.1.1),
     )
@@ -92,9 +102,13 @@ rows-clean n (l ∷ ls) h =
 pub finished-clean : (n last : ℕ) (ls : List LineText) → (rest_of n ls).stop ≡ finished last → AllByRecursion IsClean ls
 finished-clean n last [] e = tt
 finished-clean n last (l ∷ ls) e = by_row (row_of l) refl e (finished-clean (l.number + 1) last ls) where
-  by_row : (r : Result Row Refused) → row_of l ≡ r → (with_line r (rest_of (l.number + 1) ls)).stop ≡ finished last → ((rest_of (l.number + 1) ls).stop ≡ finished last → AllByRecursion IsClean ls)
+  by_row : (r : Result Row Refused) → row_of l ≡ r → (with_line r (rest_of (l.number + 1) ls)).stop ≡ finished last →
+      ((rest_of (l.number + 1) ls).stop ≡ finished last → AllByRecursion IsClean ls)
       → IsClean l × AllByRecursion IsClean ls
-  by_row (Ok row) t e others = ((row_of-ok l row t).0, others (sym (kept_stop (eqb (length row.words) 0) row (rest_of (l.number + 1) ls)) ∙ e))
+  by_row (Ok row) t e others = (
+    (row_of-ok l row t).0,
+    others (sym (kept_stop (eqb (length row.words) 0) row (rest_of (l.number + 1) ls)) ∙ e),
+  )
   by_row (Err fault) t e others = cc
 
 -- ---- the end of a text
@@ -138,7 +152,8 @@ with_words l t = rw (some_words (words_of l.bytes), t) refl
 without_words : (l : LineText) → eqb (length (words_of l.bytes)) 0 ≡ true → has_words (line_words l) ≡ false
 without_words l t = rw (some_words (words_of l.bytes), t) refl
 
-passed_over : (l : LineText) (ls : List LineText) (rs : List Row) (row : Row) → IsClean l → has_words (line_words l) ≡ false → IsRowOf ls rs row → IsRowOf (l ∷ ls) rs row
+passed_over : (l : LineText) (ls : List LineText) (rs : List Row) (row : Row) → IsClean l → has_words (line_words l) ≡ false →
+    IsRowOf ls rs row → IsRowOf (l ∷ ls) rs row
 passed_over l ls rs row h none u = record {
   before = l ∷ u.before;
   last = u.last;
@@ -150,7 +165,8 @@ passed_over l ls rs row h none u = record {
   number = u.number;
 }
 
-kept_before : (l : LineText) (ls : List LineText) (rs : List Row) (row : Row) → IsClean l → has_words (line_words l) ≡ true → IsRowOf ls rs row → IsRowOf (l ∷ ls) (line_row l ∷ rs) row
+kept_before : (l : LineText) (ls : List LineText) (rs : List Row) (row : Row) → IsClean l → has_words (line_words l) ≡ true →
+    IsRowOf ls rs row → IsRowOf (l ∷ ls) (line_row l ∷ rs) row
 kept_before l ls rs row h some u = record {
   before = l ∷ u.before;
   last = u.last;
@@ -162,7 +178,8 @@ kept_before l ls rs row h some u = record {
   number = u.number;
 }
 
-pub front-takes : (n : ℕ) (ls : List LineText) (rs : List Row) (row : Row) (more : List Row) → (rest_of n ls).rows ≡ rs ++ row ∷ more → IsRowOf ls rs row
+pub front-takes : (n : ℕ) (ls : List LineText) (rs : List Row) (row : Row) (more : List Row) → (rest_of n ls).rows ≡ rs ++ row ∷ more →
+    IsRowOf ls rs row
 front-takes n [] [] row more e = cc
 front-takes n [] (r ∷ rs) row more e = cc
 front-takes n (l ∷ ls) rs row more e = by_row (row_of l) refl e (λ rs. front-takes (l.number + 1) ls rs row more) where
@@ -184,7 +201,8 @@ front-takes n (l ∷ ls) rs row more e = by_row (row_of l) refl e (λ rs. front-
       subst (λ k. IsRowOf (l ∷ ls) (k ∷ rs) row) first (kept_before l ls rs row h some (others rs left))
 
   by_test : (v : Bool) → eqb (length (words_of l.bytes)) 0 ≡ v → IsClean l
-      → (cond v (rest_of (l.number + 1) ls) (record (rest_of (l.number + 1) ls) { rows = line_row l ∷ (rest_of (l.number + 1) ls).rows })).rows ≡ rs ++ row ∷ more
+      → (cond v (rest_of (l.number + 1) ls)
+      (record (rest_of (l.number + 1) ls) { rows = line_row l ∷ (rest_of (l.number + 1) ls).rows })).rows ≡ rs ++ row ∷ more
       → ((rs : List Row) → (rest_of (l.number + 1) ls).rows ≡ rs ++ row ∷ more → IsRowOf ls rs row) → IsRowOf (l ∷ ls) rs row
   by_test true t h e others = passed_over l ls rs row h (without_words l t) (others rs e)
   by_test false t h e others = here h rs e (with_words l t) others
@@ -204,7 +222,8 @@ pub record HasRow (rows rs : List Row) (row : Row) : Type 0 where
   pub more : List Row
   pub parts : rows ≡ rs ++ row ∷ more
 
-pub front-again : (n : ℕ) (before : List LineText) (last : LineText) (after : List LineText) → AllByRecursion IsClean (before ++ last ∷ []) → has_words (line_words last) ≡ true
+pub front-again : (n : ℕ) (before : List LineText) (last : LineText) (after : List LineText) →
+    AllByRecursion IsClean (before ++ last ∷ []) → has_words (line_words last) ≡ true
     → (rs : List Row) × HasRow (rest_of n (before ++ last ∷ after)).rows rs (line_row last) × (row_lists rs ≡ word_lists before)
 front-again n [] last after h some =
     let none : eqb (length (words_of last.bytes)) 0 ≡ false = sym (some_words (words_of last.bytes)) ∙ not-true _ some in
@@ -212,8 +231,17 @@ front-again n [] last after h some =
 front-again n (l ∷ ls) last after h some =
     let u = front-again (l.number + 1) ls last after h.1 some in
     rw (row_of-clean l h.0) (by_test (eqb (length (words_of l.bytes)) 0) refl u.0 u.1 u.2) where
-      by_test : (v : Bool) → eqb (length (words_of l.bytes)) 0 ≡ v → (rs : List Row) → HasRow (rest_of (l.number + 1) (ls ++ last ∷ after)).rows rs (line_row last) → row_lists rs ≡ word_lists ls
-          → (rs : List Row) × HasRow (cond v (rest_of (l.number + 1) (ls ++ last ∷ after)) (record (rest_of (l.number + 1) (ls ++ last ∷ after)) { rows = line_row l ∷ (rest_of (l.number + 1) (ls ++ last ∷ after)).rows })).rows rs (line_row last)
+      by_test : (v : Bool) → eqb (length (words_of l.bytes)) 0 ≡ v → (rs : List Row) →
+          HasRow (rest_of (l.number + 1) (ls ++ last ∷ after)).rows rs (line_row last) → row_lists rs ≡ word_lists ls
+          → (rs : List Row) × HasRow (cond v (rest_of (l.number + 1) (ls ++ last ∷ after))
+          (record (rest_of (l.number + 1) (ls ++ last ∷ after)) {
+            rows =
+                line_row l ∷ (rest_of (l.number + 1) (ls ++ last ∷ after)).rows;
+          })).rows rs (line_row last)
           × (row_lists rs ≡ word_lists (l ∷ ls))
       by_test true t rs u e = (rs, u, rw (without_words l t) e)
-      by_test false t rs u e = (line_row l ∷ rs, record { more = u.more; parts = ap (λ k. line_row l ∷ k) u.parts }, rw (with_words l t) (ap (λ k. line_words l ∷ k) e))
+      by_test false t rs u e = (
+        line_row l ∷ rs,
+        record { more = u.more; parts = ap (λ k. line_row l ∷ k) u.parts },
+        rw (with_words l t) (ap (λ k. line_words l ∷ k) e),
+      )

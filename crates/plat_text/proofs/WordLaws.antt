@@ -1,5 +1,6 @@
 -- readings of one word: what is read is spelled so, and what is spelled so is read
-use Rattle.std.proofs.Common.{◌≡◌, ℕ, ◌+◌, ◌^◌, ◌<◌, ◌≤◌, Bool, true, false, cond, ltb, leb, List, [], ◌∷◌, Result, Ok, Err, bytes_eq, refl, ap, sym, ◌∙◌, arith}
+use Rattle.std.proofs.Common.{◌≡◌, ℕ, ◌+◌, ◌^◌, ◌<◌, ◌≤◌, Bool, true, false, cond, ltb, leb, List, [], ◌∷◌, Result, Ok, Err, bytes_eq, refl}
+use Rattle.std.proofs.Common.{ap, sym, ◌∙◌, arith}
 use Rattle.std.specs.Fmt.{decimal}
 use Rattle.std.proofs.lemmas.Bool.{and_parts, and_from, ltb-true, leb-true, lt-ltb, le-leb}
 use Rattle.std.proofs.lemmas.Slice.Eq.{bytes_eq-Decides}
@@ -28,9 +29,12 @@ is_within-from low high n a b = and_from (leb low n) (leb n high) (le-leb low n 
 pub number-law : (low high : ℕ) → high < 2 ^ 32 → IsWordForm (number_in low high) decimal (λ n. (low ≤ n) × (n ≤ high))
 number-law low high fits = record {
   takes = λ w n e. taking (number_of w) (within low high) n e (λ m m-is e1.
-      let in_range = let_through (is_within low high m) m n OutOfRange e1 in
-      ((number_of-takes w m m-is).0 ∙ ap decimal in_range.1, is_within-true low high n (ap (is_within low high) (sym in_range.1) ∙ in_range.0)));
-  again = λ n h. then_ok (number_of (decimal n)) (within low high) n _ (number_of-again n (omega (arith, h, fits))) (rw (is_within-from low high n h.0 h.1) refl);
+      let in_range = let_through (is_within low high m) m n OutOfRange e1 in (
+        (number_of-takes w m m-is).0 ∙ ap decimal in_range.1,
+        is_within-true low high n (ap (is_within low high) (sym in_range.1) ∙ in_range.0),
+      ));
+  again = λ n h. then_ok (number_of (decimal n)) (within low high) n _ (number_of-again n (omega (arith, h, fits)))
+      (rw (is_within-from low high n h.0 h.1) refl);
 }
 
 pub below-law : (limit : ℕ) → limit ≤ 2 ^ 32 → IsWordForm (number_below limit) decimal (λ n. n < limit)
@@ -38,7 +42,8 @@ below-law limit fits = record {
   takes = λ w n e. taking (number_of w) (under limit) n e (λ m m-is e1.
       let in_range = let_through (ltb m limit) m n OutOfRange e1 in
       ((number_of-takes w m m-is).0 ∙ ap decimal in_range.1, ltb-true n limit (ap (λ k. ltb k limit) (sym in_range.1) ∙ in_range.0)));
-  again = λ n h. then_ok (number_of (decimal n)) (under limit) n _ (number_of-again n (omega (arith, h, fits))) (rw (lt-ltb n limit h) refl);
+  again = λ n h. then_ok (number_of (decimal n)) (under limit) n _ (number_of-again n (omega (arith, h, fits)))
+      (rw (lt-ltb n limit h) refl);
 }
 
 pub exactly-law : (key : List ℕ) → IsWordForm (exactly key) (λ _. key) (λ _. Unit {0})

@@ -47,7 +47,8 @@ fn checked(line: Line<'_>) -> Result<(), Refused>
 
 /// Passes over lines without words.
 pub fn scan<'a>(lines: &mut Lines<'a>, next: u32) -> (Ahead<'a>, u32)
-    ensures rows { (given : ℕ) → with_ahead given result.0 (rest_of result.1 lines.new) ≡ record (rest_of next lines.old) { given = given } }
+    ensures rows { (given : ℕ) → with_ahead given result.0 (rest_of result.1 lines.new)
+        ≡ record (rest_of next lines.old) { given = given } }
     ensures size { ahead_size result.0 + lines_size lines.new ≤ lines_size lines.old }
 {
     let mut next = next;

@@ -1,7 +1,8 @@
 //! Lines that have words, read word by word.
 ghost use Rattle.std.specs.Prelude.{◌≡◌, ◌+◌, ◌<◌, ◌^◌, ◌==◌, Ok, length};
 ghost use Rattle.plat_grammar.specs.Lines.{number_of};
-ghost use Rattle.plat_grammar.specs.Forms.{Reads, first_word, refused, word_at, read_as, exactly, key, number_in, number_below, any_number, number, below, nothing};
+ghost use Rattle.plat_grammar.specs.Forms.{Reads, first_word, refused, word_at, read_as, exactly, key, number_in, number_below, any_number};
+ghost use Rattle.plat_grammar.specs.Forms.{number, below, nothing};
 ghost use Rattle.plat_text.specs.Shown.{word, row_for};
 
 use crate::cuts::words;

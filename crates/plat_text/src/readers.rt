@@ -1,6 +1,7 @@
 //! Texts read row by row, a row being a line that has words.
 ghost use Rattle.std.specs.Prelude.{◌≡◌, ◌+◌, ◌<◌, ◌≤◌, ◌^◌, Ok, length};
-ghost use Rattle.plat_grammar.specs.Forms.{Reads, spelled_size, first_row, word_ahead, row_at, word_at, opened, if_opened, over, row_length, rest_of};
+ghost use Rattle.plat_grammar.specs.Forms.{Reads, spelled_size, first_row, word_ahead, row_at, word_at, opened, if_opened, over};
+ghost use Rattle.plat_grammar.specs.Forms.{row_length, rest_of};
 ghost use Rattle.plat_grammar.specs.Lines.{words_of};
 ghost use Rattle.plat_grammar.specs.Forms.{rows_of};
 ghost use Rattle.plat_text.specs.Shown.{word};
@@ -13,7 +14,8 @@ use crate::tokens::Token;
 use plat_base::{Refused, Why};
 use std::marker::Model;
 
-/// The rows of a text that are still to read. After an `Err` of any of its calls a text has its first fault, and nothing more is read of it.
+/// The rows of a text that are still to read. After an `Err` of any of its calls a text has its first fault, and
+/// nothing more is read of it.
 #[derive(Debug, Drop)]
 pub struct Rows<'a> {
     given: u64,

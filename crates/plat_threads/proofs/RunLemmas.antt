@@ -1,9 +1,11 @@
 -- riders that have run, alone and by halves
-use Rattle.std.proofs.Common.{◌≡◌, ℕ, zero, suc, ◌<◌, Bool, true, false, List, [], ◌∷◌, ◌++◌, length, map, take, drop, refl, sym, ap, ap₂, ◌∙◌, subst, arith}
+use Rattle.std.proofs.Common.{◌≡◌, ℕ, zero, suc, ◌<◌, Bool, true, false, List, [], ◌∷◌, ◌++◌, length, map, take, drop, refl, sym, ap, ap₂}
+use Rattle.std.proofs.Common.{◌∙◌, subst, arith}
 use Rattle.std.specs.Prelude.{not, slice_index_or}
 use Rattle.std.proofs.lemmas.List.{length-map, map-append, take-append-drop}
 use Rattle.std.proofs.lemmas.List.Elements.{All-append}
 use Rattle.std.proofs.lemmas.List.FromFn.{length-range_with_len}
+use Rattle.std.proofs.lemmas.Bool.{not-false}
 use Rattle.plat_base.specs.Machine.{Machine}
 use Rattle.plat_base.specs.Pages.{numbers}
 use Rattle.plat_base.specs.Seen.{machine}
@@ -22,10 +24,6 @@ numbers-length crew = length-map crew (λ (h : Held). h.0)
 -- the same actors are as many
 pub as_many : (x y : List Held) (n : ℕ) → numbers_of y ≡ numbers_of x → length x ≡ n → length y ≡ n
 as_many x y n same l = sym (numbers-length y) ∙ (ap length same ∙ (numbers-length x ∙ l))
-
-not-false : (b : Bool) → not b ≡ false → b ≡ true
-not-false true h = refl
-not-false false h = absurd cc
 
 over-first : (h : Held) (k : ℕ) (d : Held) → is_over h.1.place ≡ true → k < 1 → is_over (slice_index_or (h ∷ []) k d).1.place ≡ true
 over-first h zero d e b = e
@@ -82,7 +80,8 @@ pub all_first :
     x.crew ≡ map (held_first (machine cfg)) (numbers (actor_count (machine cfg))) → HasAll x b
 all_first cfg x b same of crew = record {
   of = of;
-  some = let count : length x.crew ≡ actor_count (machine cfg) = ap length crew ∙ first-length (machine cfg) in omega (arith, nodes_least cfg);
+  some = let count : length x.crew ≡ actor_count (machine cfg) = ap length crew ∙ first-length (machine cfg) in
+      omega (arith, nodes_least cfg);
   all = ap numbers_of crew ∙ (numbers-first (machine cfg) (numbers (actor_count (machine cfg)))
       ∙ ap (λ (m : Machine). numbers (actor_count m)) (sym same));
 }

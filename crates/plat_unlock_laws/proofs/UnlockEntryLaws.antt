@@ -1,9 +1,11 @@
 -- the unlock with a change as each processor and each entry of its page sees it
-use Rattle.std.specs.Prelude.{◌≡◌, ◌≢◌, ◌⊎◌, ℕ, ◌<◌, ◌==◌, ◌&&◌, ◌||◌, nat_lt, if◌then◌else◌, Bool, true, false, [], ◌∷◌, ◌++◌, length, Option, Some, None, is_some, slice_index_or, unwrap_or}
+use Rattle.std.specs.Prelude.{◌≡◌, ◌≢◌, ◌⊎◌, ℕ, ◌<◌, ◌==◌, ◌&&◌, ◌||◌, nat_lt, if◌then◌else◌, Bool, true, false, [], ◌∷◌, ◌++◌, length}
+use Rattle.std.specs.Prelude.{Option, Some, None, is_some, slice_index_or, unwrap_or}
 use Rattle.std.proofs.Common.{refl, ap, sym, ◌∙◌, inl, inr, arith, subst}
 use Rattle.std.specs.Option.{option_map, option_map_or}
 use Rattle.std.proofs.lemmas.Bool.{cases_eq, and_parts, eqb-true, eq-eqb, ne_eqb, true≢false}
 use Rattle.std.proofs.lemmas.Bool.Decides.{nat_tests}
+use Rattle.std.proofs.Math.Bool.{and-true, and-false}
 use Rattle.plat_base.specs.Verdicts.{Answer}
 use Rattle.plat_base.specs.Machine.{Machine}
 use Rattle.plat_base.specs.Accesses.{right_of}
@@ -27,7 +29,7 @@ use Rattle.plat_base.specs.declared.items.Translation.{Translation}
 use Rattle.plat_base.specs.declared.policies.Decision.{Decision}
 use Rattle.plat_base.specs.declared.words.WordName.TheVariants as word
 use Rattle.plat_laws.specs.Guests.{IsWithinLimits}
-use Rattle.plat_laws.proofs.ItemLaws.{held-change_own, held-change_other}
+use Rattle.plat_laws.proofs.ItemLaws.{held-change_own, held-change_other, or-false}
 use Rattle.plat_laws.proofs.TableLaws.{dir_parts, DecideFacts, same_bool-itself, all_three}
 use Rattle.plat_events.specs.Words.{dir_word, has_reference}
 use Rattle.plat_events.specs.Places.{entry_count}
@@ -36,7 +38,9 @@ use Rattle.plat_events.specs.Privates.{InSession, Private, actor_count, translat
 use Rattle.plat_events.specs.Events.{with_item}
 use Rattle.plat_events.specs.Standings.{unlocking_of}
 use Rattle.plat_events.specs.Kept.{session_on, word_at, private_of}
-use Rattle.plat_events.specs.Views.{Own, Another, EntryOk, HeldOk, InvalidateStays, View, HeldView, SessionView, PlaceView, PageView, no_session, names_copy, session_view, session_viewed, place_view, page_view, translation_of, view_of, agrees, held_view, view}
+use Rattle.plat_events.specs.Views.{Own, Another, EntryOk, HeldOk, InvalidateStays, View, HeldView, SessionView, PlaceView, PageView}
+use Rattle.plat_events.specs.Views.{no_session, names_copy, session_view, session_viewed, place_view, page_view, translation_of, view_of}
+use Rattle.plat_events.specs.Views.{agrees, held_view, view}
 use Rattle.plat_events.specs.Runs.{Fine, event}
 use Rattle.plat_events.specs.Shown.{Shows}
 use Rattle.plat_views.specs.Facts.{ViewFacts}
@@ -59,20 +63,10 @@ use Rattle.plat_session_laws.proofs.PageLaws.{place-same}
 use Rattle.plat_session_laws.proofs.ChangeFieldLaws.{own-later}
 use Rattle.plat_session_laws.proofs.UnlockFieldLaws.{unlock-after, unlock-changes, unlock-last, unlock-named, unlock-ok, unlock-on}
 use Rattle.plat_session_laws.proofs.UnlockLeavesLaws.{unlock-goes, unlocks}
-use Rattle.plat_unlock_laws.proofs.UnlockStepLaws.{left_writes, left_writes_ok, left_writes_waits, left_writes_held_other, left_writes_held_own, left_all, left_all_ok, left_all_waits, left_all_held_other, left_all_held_own}
+use Rattle.plat_unlock_laws.proofs.UnlockStepLaws.{left_writes, left_writes_ok, left_writes_waits, left_writes_held_other}
+use Rattle.plat_unlock_laws.proofs.UnlockStepLaws.{left_writes_held_own, left_all, left_all_ok, left_all_waits, left_all_held_other}
+use Rattle.plat_unlock_laws.proofs.UnlockStepLaws.{left_all_held_own}
 use Rattle.plat_unlock_laws.proofs.UnlockPageLaws.{unlock-history, unlock-dir_after, unlock-sole, unlock-gone}
-
-and_yes : (b : Bool) → (b && true) ≡ b
-and_yes true = refl
-and_yes false = refl
-
-and_no : (b : Bool) → (b && false) ≡ false
-and_no true = refl
-and_no false = refl
-
-or_no : (b : Bool) → (b || false) ≡ b
-or_no true = refl
-or_no false = refl
 
 -- ---- the views of an entry without a session
 
@@ -88,16 +82,16 @@ module _ (q : ℕ) (o : Option Translation) (mask : ℕ) (sv : SessionView) (pv 
   after = view_of q o mask no_session pv (page_now dir b w)
 
   pub seen-all : after ≡ left_all dir.state (names_copy dir o) b w before
-  seen-all = λ i. record (left_all dir.state (names_copy dir o) b w before) { kept = and_yes (names_copy dir o) i }
+  seen-all = λ i. record (left_all dir.state (names_copy dir o) b w before) { kept = and-true (names_copy dir o) i }
 
   pub seen-writes : dir.state ≡ PresentPlus → b ≡ gv.all_after → after ≡ left_writes (names_copy dir o) w before
   seen-writes plus same =
-      λ i. record (left_writes (names_copy dir o) w before) { kept = and_yes (names_copy dir o) i; state = plus i; all_after = same i }
+      λ i. record (left_writes (names_copy dir o) w before) { kept = and-true (names_copy dir o) i; state = plus i; all_after = same i }
 
   pub seen-nothing : b ≡ gv.all_after → w ≡ gv.writes_after → after ≡ unlock_nothing dir.state (names_copy dir o) before
   seen-nothing same writes =
       λ i. record (unlock_nothing dir.state (names_copy dir o) before) {
-        kept = and_yes (names_copy dir o) i;
+        kept = and-true (names_copy dir o) i;
         all_after = same i;
         writes_after = writes i;
       }
@@ -106,7 +100,7 @@ module _ (q : ℕ) (o : Option Translation) (mask : ℕ) (sv : SessionView) (pv 
   seen-granted copy same writes =
       λ i. record (unlock_granted dir.state before) {
         copy = copy i;
-        kept = (and_yes (names_copy dir o) ∙ copy) i;
+        kept = (and-true (names_copy dir o) ∙ copy) i;
         all_after = same i;
         writes_after = writes i;
       }
@@ -310,14 +304,14 @@ module _ (m : Machine) (answer : Answer) (s : Fine) (a : ℕ) (x : Session) (c :
     later-same test k none =
         ap (λ h. later test h (page_of m e) k) history
         ∙ (own-later s.history made (page_of m e) (sym there) test k
-        ∙ (ap (λ b. later test s.history (page_of m e) k || b) none ∙ or_no (later test s.history (page_of m e) k)))
+        ∙ (ap (λ b. later test s.history (page_of m e) k || b) none ∙ or-false (later test s.history (page_of m e) k)))
 
     gone-same :
         (test : Removed → Bool) → test d.removed ≡ false →
         gone test ≡ option_map_or (λ (y : Translation). later test s.history (page_of m e) y.seq) o false
     gone-same test none =
         λ i. option_map_or
-        (λ (y : Translation). later-same test y.seq (ap (λ b. nat_lt y.seq c.stamp.seq && b) none ∙ and_no (nat_lt y.seq c.stamp.seq)) i)
+        (λ (y : Translation). later-same test y.seq (ap (λ b. nat_lt y.seq c.stamp.seq && b) none ∙ and-false (nat_lt y.seq c.stamp.seq)) i)
         o false
 
     held-other : a ≢ q → held m t.history q e ≡ held m s.history q e

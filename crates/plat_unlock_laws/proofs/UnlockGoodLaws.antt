@@ -1,11 +1,11 @@
 -- the history with the change of an unlock is good
-use Rattle.std.specs.Prelude.{◌≡◌, ℕ, ◌+◌, ◌<◌, ◌||◌, true, false, List, [], ◌∷◌, ◌++◌, length, take, Some, None}
-use Rattle.std.proofs.Common.{refl, ap, sym, ◌∙◌, inl, inr, arith, subst}
+use Rattle.std.specs.Prelude.{◌≡◌, ℕ, ◌+◌, ◌<◌, ◌||◌, false, List, [], ◌∷◌, ◌++◌, length, take, Some, None}
+use Rattle.std.proofs.Common.{refl, ap, ◌∙◌, inl, inr, arith}
 use Rattle.std.proofs.lemmas.Bool.{ne_eqb}
 use Rattle.std.proofs.lemmas.List.{length-map, length-take}
 use Rattle.plat_base.specs.Verdicts.{Answer}
 use Rattle.plat_base.specs.Machine.{Machine}
-use Rattle.plat_base.specs.Rules.{Good, bad_rule, is_end}
+use Rattle.plat_base.specs.Rules.{Good, bad_rule}
 use Rattle.plat_base.specs.declared.items.Change.{Change}
 use Rattle.plat_base.specs.declared.items.Item.{Item}
 use Rattle.plat_base.specs.declared.items.Item.TheVariants as item
@@ -13,23 +13,20 @@ use Rattle.plat_base.specs.declared.words.WordName.TheVariants as word
 use Rattle.plat_base.specs.declared.endings.Ended.{Ended}
 use Rattle.plat_laws.specs.Guests.{IsWithinLimits}
 use Rattle.plat_laws.proofs.ItemLaws.{is_in_order-not_mine}
-use Rattle.plat_laws.proofs.HistoryLaws.{one_history}
+use Rattle.plat_laws.proofs.HistoryLaws.{one_history, good-items}
 use Rattle.plat_laws.proofs.EndLaws.{first_bad-none, bad_after-more, bad_after-one}
 use Rattle.plat_events.specs.Sessions.{Course, Session, Unlocking, change_made}
 use Rattle.plat_events.specs.Privates.{InSession, Private, actor_count}
 use Rattle.plat_events.specs.Events.{with_item}
 use Rattle.plat_events.specs.Kept.{private_of}
-use Rattle.plat_events.specs.Runs.{Fine, event, end_at, ended_by, ends_of}
-use Rattle.plat_events.specs.Shown.{items_by, Shows}
-use Rattle.plat_local_laws.specs.Alone.{PrivateOk}
+use Rattle.plat_events.specs.Runs.{Fine, event, ended_by, ends_of}
+use Rattle.plat_events.specs.Shown.{Shows}
 use Rattle.plat_local_laws.proofs.CourseLaws.{IsActor}
-use Rattle.plat_local_laws.proofs.OrderLaws.{cut_in_order}
 use Rattle.plat_local_laws.proofs.PrivateLaws.{private_ok}
 use Rattle.plat_local_laws.proofs.StandingLaws.{actor-is}
 use Rattle.plat_fine_laws.specs.Changes.{IsBy}
-use Rattle.plat_fine_laws.proofs.JournalLaws.{items_by-own}
+use Rattle.plat_fine_laws.proofs.MadeLaws.{good-made}
 use Rattle.plat_fine_laws.proofs.EndFieldLaws.{ends-still}
-use Rattle.plat_fine_laws.proofs.GoodLaws.{good-items, good-next}
 use Rattle.plat_frame_laws.proofs.SessionHereLaws.{here}
 use Rattle.plat_session_laws.proofs.UnlockFieldLaws.{unlock-after, unlock-changes, unlock-reached, unlock-rule}
 use Rattle.plat_session_laws.proofs.UnlockLeavesLaws.{Unlocks, unlocks, unlock-goes}
@@ -69,27 +66,11 @@ module _ (m : Machine) (answer : Answer) (s : Fine) (a : ℕ) (x : Session) (c :
   own : IsBy a (Some (item.Change made))
   own = (unlock-goes m answer a p x c stands).own
 
-  same_item : (i : Item) → Some (item.Change made) ≡ Some i → item.Change made ≡ i
-  same_item i is = cc
-
-  good-node : a < m.nodes → Good m answer (s.history ++ item.Change made ∷ []) (ends_of m t.privates)
+  good-node : a < m.nodes → Good m answer t.history (ends_of m t.privates)
   good-node node =
-      let changes = unlock-changes m answer s a x c limits shows within stands is in
-      let ok : PrivateOk m answer a after =
-      private_ok m answer a after limits within (unlock-reached m answer s a x c limits shows within stands is) in
-      let journal : items_by a (with_item s.history (Some (item.Change made))) ≡ after.journal =
-      items_by-own a s.history (Some (item.Change made)) own
-      ∙ ap (λ j. with_item j (Some (item.Change made))) (sym (shows.journals_are_history a within)) in
-      let cut : is_end m (with_item s.history (Some (item.Change made))) a (end_at after.place) after.turns ≡ true =
-      ap (λ e. is_end m (with_item s.history (Some (item.Change made))) a e after.turns) ends.steady.ended
-      ∙ cut_in_order m answer a after (with_item s.history (Some (item.Change made))) ok node (sym journal) in
-      let good = good-next m s.privates a p after node (omega (arith, shows.all_privates)) (here m answer s a x limits shows within
-      stands) answer
-      s.history (Some (item.Change made)) shows.history_good own
-      (λ i e. subst (λ j. bad_rule m answer s.history j ≡ None) (same_item i e) (unlock-rule m answer s a x c limits shows within stands
-      is))
-      ok.standing.turns_most cut in
-      rw changes.privates good
+      good-made m answer s t a (word.Dir x.fault.page) _ after (item.Change made) shows within node
+      (unlock-changes m answer s a x c limits shows within stands is) own refl (unlock-rule m answer s a x c limits shows within stands is)
+      (private_ok m answer a after limits within (unlock-reached m answer s a x c limits shows within stands is)) ends.steady.ended
 
   good-daemon : a ≡ m.nodes → Good m answer (s.history ++ item.Change made ∷ []) (ends_of m t.privates)
   good-daemon daemon =
@@ -104,8 +85,8 @@ module _ (m : Machine) (answer : Answer) (s : Fine) (a : ℕ) (x : Session) (c :
       (unlock-rule m answer s a x c limits shows within stands is) shows.history_good)
 
   pub unlock-good : Good m answer (event m answer s a).history (ends_of m (event m answer s a).privates)
-  unlock-good = rw (unlock-changes m answer s a x c limits shows within stands is).history (by (actor-is m a within))
+  unlock-good = by (actor-is m a within)
     where
-      by : IsActor m a → Good m answer (s.history ++ item.Change made ∷ []) (ends_of m t.privates)
+      by : IsActor m a → Good m answer t.history (ends_of m t.privates)
       by (inl node) = good-node node
-      by (inr daemon) = good-daemon daemon
+      by (inr daemon) = rw (unlock-changes m answer s a x c limits shows within stands is).history (good-daemon daemon)

@@ -1,5 +1,6 @@
 -- the unlock with a change: each frame of the machine is used as it was, and the page shows what the history says
-use Rattle.std.specs.Prelude.{◌≡◌, ◌⊎◌, ℕ, ◌+◌, ◌<◌, ◌&&◌, ◌||◌, not, if◌then◌else◌, Bool, true, false, List, [], ◌∷◌, ◌++◌, filter, cond, Option, Some, None, is_some, IsTrue}
+use Rattle.std.specs.Prelude.{◌≡◌, ◌⊎◌, ℕ, ◌+◌, ◌<◌, ◌&&◌, ◌||◌, not, if◌then◌else◌, Bool, true, false, List, [], ◌∷◌, ◌++◌, filter, cond}
+use Rattle.std.specs.Prelude.{Option, Some, None, is_some, IsTrue}
 use Rattle.std.proofs.Common.{refl, ap, sym, ◌∙◌, inl, inr, subst}
 use Rattle.std.specs.List.{list_any}
 use Rattle.std.specs.Option.{option_map_or}
@@ -31,16 +32,18 @@ use Rattle.plat_events.specs.Shown.{bit_of, is_hand, flat_word, frame_word, uses
 use Rattle.plat_local_laws.specs.Phases.{SessionOk}
 use Rattle.plat_local_laws.proofs.CourseLaws.{IsActor, fault_decides, thaw_decides}
 use Rattle.plat_local_laws.proofs.StandingLaws.{actor-is}
-use Rattle.plat_fine_laws.proofs.TableFacts.{same_frame-same, is_copy_of-on, copy_on-is}
+use Rattle.plat_fine_laws.proofs.TableFacts.{is_copy_of-on, copy_on-is}
 use Rattle.plat_frame_laws.specs.Phased.{running}
 use Rattle.plat_frame_laws.proofs.SessionHereLaws.{session}
 use Rattle.plat_frame_laws.proofs.FrameUseLaws.{page_uses}
 use Rattle.plat_session_laws.specs.OnePage.{ShowsPage}
 use Rattle.plat_session_laws.proofs.PageLaws.{runs, frame-word, once-kept}
 use Rattle.plat_session_laws.proofs.ChangeFieldLaws.{own-dir}
-use Rattle.plat_session_laws.proofs.UnlockFieldLaws.{unlock-after, unlock-changes, unlock-copies, unlock-decides, unlock-dir, unlock-inside, unlock-last, unlock-lock, unlock-named, unlock-ok, unlock-on, unlock-stamp}
+use Rattle.plat_session_laws.proofs.UnlockFieldLaws.{unlock-after, unlock-changes, unlock-copies, unlock-decides, unlock-dir, unlock-inside}
+use Rattle.plat_session_laws.proofs.UnlockFieldLaws.{unlock-last, unlock-lock, unlock-named, unlock-ok, unlock-on, unlock-stamp}
 use Rattle.plat_session_laws.proofs.UnlockLeavesLaws.{unlock-goes, unlocks}
 use Rattle.plat_session_laws.proofs.UnlockOthersLaws.{unlock-leaves}
+use Rattle.plat_laws.proofs.SameLaws.{same_frame-true}
 
 -- a copy is one of the directory after, or goes
 going-either :
@@ -62,19 +65,19 @@ going-either f test (g ∷ gs) h k = first (same_frame f g) refl h (λ any. goin
         (list_any (same_frame f) gs ≡ true → list_any (same_frame f) (filter test gs) ≡ true) →
         list_any (same_frame f) (cond (test g) (g ∷ filter test gs) (filter test gs)) ≡ true
     first true same any more =
-        let passes : test g ≡ true = ap test (sym (same_frame-same f g same)) ∙ k in
+        let passes : test g ≡ true = ap test (sym (same_frame-true f g same)) ∙ k in
         ap (λ b. list_any (same_frame f) (cond b (g ∷ filter test gs) (filter test gs))) passes
         ∙ ap (λ b. b || list_any (same_frame f) (filter test gs)) same
     first false same any more = keep (test g) (more any)
 
-going-is :
+pub going-is :
     (f : Frame) (test : Frame → Bool) (fs : List Frame) → list_any (same_frame f) (filter test fs) ≡ true → test f ≡ true
 going-is f test [] h = absurd cc
 going-is f test (g ∷ gs) h = by (test g) refl h (λ any. going-is f test gs any)
   where
     first : (b : Bool) → same_frame f g ≡ b → test g ≡ true → (b || list_any (same_frame f) (filter test gs)) ≡ true →
         (list_any (same_frame f) (filter test gs) ≡ true → test f ≡ true) → test f ≡ true
-    first true same passes any more = ap test (same_frame-same f g same) ∙ passes
+    first true same passes any more = ap test (same_frame-true f g same) ∙ passes
     first false same passes any more = more any
 
     by : (b : Bool) → test g ≡ b → list_any (same_frame f) (cond b (g ∷ filter test gs) (filter test gs)) ≡ true →
@@ -120,7 +123,7 @@ uses-same before after got f moves apart = by (is_copy_of after f) refl
 
     in_hand : (o : Option Frame) → option_map_or (same_frame f) o false ≡ true → o ≡ Some f
     in_hand None h = absurd cc
-    in_hand (Some g) h = ap (λ (y : Frame). Some y) (sym (same_frame-same f g h))
+    in_hand (Some g) h = ap (λ (y : Frame). Some y) (sym (same_frame-true f g h))
 
     no_hand : (got ≡ Some f → ⊥) → option_map_or (same_frame f) got false ≡ false
     no_hand none = hand (option_map_or (same_frame f) got false) refl

@@ -8,13 +8,16 @@ use Rattle.plat_base.specs.declared.items.Item.TheVariants as item
 use Rattle.plat_base.specs.declared.words.WordName.TheVariants as word
 use Rattle.plat_laws.specs.Guests.{IsWithinLimits}
 use Rattle.plat_events.specs.Words.{dir_word}
-use Rattle.plat_events.specs.Sessions.{Course, Phase, Session, Stamping, Seeking, Taking, Returning, Shooting, Filling, Reading, Copying, Giving, Storing, Granting, Unlocking, change_made, decision_of}
-use Rattle.plat_events.specs.Privates.{Place, Polling, Looking, Applying, Ticking, Switching, Loading, Expecting, Exchanging, Locking, InSession, Leaving, Lessening, Gone, LiveLooking, TimeLooking, Over, actor_count}
+use Rattle.plat_events.specs.Sessions.{Course, Phase, Session, Stamping, Seeking, Taking, Returning, Shooting, Filling, Reading, Copying}
+use Rattle.plat_events.specs.Sessions.{Giving, Storing, Granting, Unlocking, change_made, decision_of}
+use Rattle.plat_events.specs.Privates.{Place, Polling, Looking, Applying, Ticking, Switching, Loading, Expecting, Exchanging, Locking}
+use Rattle.plat_events.specs.Privates.{InSession, Leaving, Lessening, Gone, LiveLooking, TimeLooking, Over, actor_count}
 use Rattle.plat_events.specs.Kept.{private_of}
 use Rattle.plat_events.specs.Runs.{Fine, event}
 use Rattle.plat_events.specs.Shown.{Shows}
 use Rattle.plat_session_laws.proofs.PageLaws.{shows-page}
-use Rattle.plat_session_laws.proofs.UnlockFieldLaws.{unlock-after, unlock-changes, unlock-encoded, unlock-inside, unlock-named, unlock-reached}
+use Rattle.plat_session_laws.proofs.UnlockFieldLaws.{unlock-after, unlock-changes, unlock-encoded, unlock-inside, unlock-named}
+use Rattle.plat_session_laws.proofs.UnlockFieldLaws.{unlock-reached}
 use Rattle.plat_session_laws.proofs.UnlockLeavesLaws.{unlock-goes}
 use Rattle.plat_session_laws.proofs.UnlockOthersLaws.{unlock-leaves}
 use Rattle.plat_unlock_laws.specs.Unlocking.{phase_unlocks_changed, unlocks_changed}

@@ -13,7 +13,8 @@ use plat_base::{Config, Policy};
 /// state holds on behind the operation by which an actor, a processor or the daemon, stores the directory that it decided
 /// and clears the lock of its page.
 pub fn any_policy_unlocks<P: Policy>(cfg: &Config, policy: &P)
-    ensures { (s : Fine) (a : ℕ) → Shows (machine cfg.now) (P.answer policy.now) s → a < actor_count (machine cfg.now)
+    ensures { (s : Fine) (a : ℕ) → Shows (machine cfg.now) (P.answer policy.now) s →
+        a < actor_count (machine cfg.now)
         → IsTrue (unlocks_changed (private_of (machine cfg.now) s a).place)
         → Shows (machine cfg.now) (P.answer policy.now) (event (machine cfg.now) (P.answer policy.now) s a) }
 {}

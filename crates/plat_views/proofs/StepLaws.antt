@@ -6,7 +6,10 @@ use Rattle.plat_base.specs.declared.items.Removed.{Removed}
 use Rattle.plat_base.specs.declared.items.Removed.TheVariants.{Nothing, Writes, All}
 use Rattle.plat_events.specs.Views.{Another, Own, View, EntryOk}
 use Rattle.plat_views.specs.Facts.{ViewFacts}
-use Rattle.plat_views.specs.Steps.{lock_other, lock_own, choose, post_all_other, post_writes_other, post_all_own, post_writes_own, post_none, last_pass, pass_mask, pass_act, give, grant, unlock_granted, unlock_nothing, unlock_writes, unlock_all, unlock_unchanged, scan_clear, scan_restrict, scan_invalidate, apply_invalidate, apply_restrict, leave}
+use Rattle.plat_views.specs.Steps.{lock_other, lock_own, choose, post_all_other, post_writes_other, post_all_own, post_writes_own}
+use Rattle.plat_views.specs.Steps.{post_none, last_pass, pass_mask, pass_act, give, grant, unlock_granted, unlock_nothing, unlock_writes}
+use Rattle.plat_views.specs.Steps.{unlock_all, unlock_unchanged, scan_clear, scan_restrict, scan_invalidate, apply_invalidate}
+use Rattle.plat_views.specs.Steps.{apply_restrict, leave}
 
 pub lock_other_ok : (v : View) → EntryOk v → EntryOk (lock_other v)
 lock_other_ok v ok = search arith

@@ -91,7 +91,17 @@ give v = record v { given = true; kept = false }
 
 -- the session grants its translation
 abbrev pub grant : Bool → Bool → Bool → View → View
-grant w c k v = record v { has = true; writes = w; marked = false; granted = true; copy = c; kept = k; mine = true; all_after = false; writes_after = false }
+grant w c k v = record v {
+  has = true;
+  writes = w;
+  marked = false;
+  granted = true;
+  copy = c;
+  kept = k;
+  mine = true;
+  all_after = false;
+  writes_after = false;
+}
 
 -- an unlock, at the translation that was granted
 abbrev pub unlock_granted : State → View → View

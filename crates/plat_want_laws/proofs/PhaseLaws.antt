@@ -1,5 +1,6 @@
 -- along the phases of a session: the modules that were tried are those whose pools were found to be 0
-use Rattle.std.specs.Prelude.{◌≡◌, ℕ, ◌+◌, ◌<◌, ◌≤◌, ◌&&◌, not, nat_lt, if◌then◌else◌, Bool, true, false, List, [], ◌∷◌, ◌++◌, length, Option, None, slice_index}
+use Rattle.std.specs.Prelude.{◌≡◌, ℕ, ◌+◌, ◌<◌, ◌≤◌, ◌&&◌, not, nat_lt, if◌then◌else◌, Bool, true, false, List, [], ◌∷◌, ◌++◌, length}
+use Rattle.std.specs.Prelude.{Option, None, slice_index}
 use Rattle.std.specs.List.{Contains}
 use Rattle.std.proofs.Common.{ap, sym, ◌∙◌, ◌⊎◌, inl, inr, arith, subst}
 use Rattle.std.proofs.lemmas.Bool.{cond_both, cases_eq, ltb-false}
@@ -15,7 +16,9 @@ use Rattle.plat_base.specs.declared.items.Action.{Action}
 use Rattle.plat_base.specs.declared.items.Action.TheVariants as action
 use Rattle.plat_base.specs.declared.policies.Verdict.TheVariants as verdict
 use Rattle.plat_events.specs.Shootdowns.{Shoot, Makes, Polls, Done, shoot_from}
-use Rattle.plat_events.specs.Sessions.{Stamp, Course, Phase, Stamping, Seeking, Taking, Returning, Shooting, Filling, Reading, Copying, Giving, Storing, Granting, Unlocking, Session, decision_of, going, by_distance, tried, module_tried, give_from, fill_from, copy_from, shot_over, with_shoot, start_course, with_frame_got, seek_from}
+use Rattle.plat_events.specs.Sessions.{Stamp, Course, Phase, Stamping, Seeking, Taking, Returning, Shooting, Filling, Reading, Copying}
+use Rattle.plat_events.specs.Sessions.{Giving, Storing, Granting, Unlocking, Session, decision_of, going, by_distance, tried, module_tried}
+use Rattle.plat_events.specs.Sessions.{give_from, fill_from, copy_from, shot_over, with_shoot, start_course, with_frame_got, seek_from}
 use Rattle.plat_want_laws.specs.Emptied.{HasEachModule}
 use Rattle.plat_want_laws.proofs.NearLaws.{by_distance-each}
 

@@ -1,5 +1,6 @@
 -- at the places of an actor: what one operation of its own makes of the list of modules
-use Rattle.std.specs.Prelude.{◌≡◌, ◌≢◌, ℕ, ◌+◌, ◌==◌, ◌&&◌, nat_lt, not, if◌then◌else◌, Bool, true, false, List, [], ◌∷◌, ◌++◌, length, Option, Some, None}
+use Rattle.std.specs.Prelude.{◌≡◌, ◌≢◌, ℕ, ◌+◌, ◌==◌, ◌&&◌, nat_lt, not, if◌then◌else◌, Bool, true, false, List, [], ◌∷◌, ◌++◌, length}
+use Rattle.std.specs.Prelude.{Option, Some, None}
 use Rattle.std.proofs.Common.{arith}
 use Rattle.std.proofs.lemmas.Bool.{cond_both, ne_eqb}
 use Rattle.plat_base.specs.Verdicts.{Answer}
@@ -23,13 +24,19 @@ use Rattle.plat_base.specs.declared.words.WordName.{WordName}
 use Rattle.plat_events.specs.Words.{has_bit, has_invalidate, has_restrict, is_locked, dir_read, last_read, seq_read}
 use Rattle.plat_events.specs.Operations.{told}
 use Rattle.plat_events.specs.Shootdowns.{Shoot, Makes, Polls, Done, own_post, shot_after}
-use Rattle.plat_events.specs.Sessions.{Fault, Course, Phase, Stamping, Seeking, Taking, Returning, Shooting, Filling, Reading, Copying, Giving, Storing, Granting, Unlocking, Session, decision_of, module_tried, with_shoot, frame_taken, with_phase}
-use Rattle.plat_events.specs.Privates.{Onward, NewTurn, TurnOver, Relock, Rewait, Place, Polling, Looking, Applying, Ticking, Switching, Loading, Expecting, Exchanging, Locking, InSession, Leaving, Lessening, Gone, LiveLooking, TimeLooking, Over, Private, translation_at}
+use Rattle.plat_events.specs.Sessions.{Fault, Course, Phase, Stamping, Seeking, Taking, Returning, Shooting, Filling, Reading, Copying}
+use Rattle.plat_events.specs.Sessions.{Giving, Storing, Granting, Unlocking, Session, decision_of, module_tried, with_shoot, frame_taken}
+use Rattle.plat_events.specs.Sessions.{with_phase}
+use Rattle.plat_events.specs.Privates.{Onward, NewTurn, TurnOver, Relock, Rewait, Place, Polling, Looking, Applying, Ticking, Switching}
+use Rattle.plat_events.specs.Privates.{Loading, Expecting, Exchanging, Locking, InSession, Leaving, Lessening, Gone, LiveLooking}
+use Rattle.plat_events.specs.Privates.{TimeLooking, Over, Private, translation_at}
 use Rattle.plat_events.specs.Scans.{turn_over, go_on, scan_from, poll_place, look_place}
-use Rattle.plat_events.specs.Events.{named_next, entry_of, at, look_up, look_up_place, turn_does, access_over, lock_place_after, page_done, pass_begun, shoot_place, returned, unlocked, moved_at, reach_now, forget_page, drop_own, thaw_of}
+use Rattle.plat_events.specs.Events.{named_next, entry_of, at, look_up, look_up_place, turn_does, access_over, lock_place_after, page_done}
+use Rattle.plat_events.specs.Events.{pass_begun, shoot_place, returned, unlocked, moved_at, reach_now, forget_page, drop_own, thaw_of}
 use Rattle.plat_events.specs.Shown.{goes_to}
 use Rattle.plat_want_laws.specs.Emptied.{emptied_by, HasEachModule}
-use Rattle.plat_want_laws.proofs.PhaseLaws.{PhaseHas, give_from-has, fill_from-has, copy_from-has, with_shoot-has, seek_from-has, pool-seen, pool-missed, has-more}
+use Rattle.plat_want_laws.proofs.PhaseLaws.{PhaseHas, give_from-has, fill_from-has, copy_from-has, with_shoot-has, seek_from-has, pool-seen}
+use Rattle.plat_want_laws.proofs.PhaseLaws.{pool-missed, has-more}
 
 -- ---- what the list has
 

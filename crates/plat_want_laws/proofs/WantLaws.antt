@@ -1,5 +1,6 @@
 -- along a run: a processor on its way to its end for want of a frame has found every pool to be 0
-use Rattle.std.specs.Prelude.{◌≡◌, ◌≢◌, ℕ, zero, suc, ◌<◌, ◌==◌, if◌then◌else◌, Bool, true, false, List, [], ◌∷◌, map, take, Option, Some, None, slice_get, slice_index, slice_index_or}
+use Rattle.std.specs.Prelude.{◌≡◌, ◌≢◌, ℕ, zero, suc, ◌<◌, ◌==◌, if◌then◌else◌, Bool, true, false, List, [], ◌∷◌, map, take, Option, Some}
+use Rattle.std.specs.Prelude.{None, slice_get, slice_index, slice_index_or}
 use Rattle.std.specs.List.{fold}
 use Rattle.std.specs.Option.{option_map}
 use Rattle.std.proofs.Common.{refl, ap, sym, ◌∙◌, arith, subst}
@@ -16,7 +17,9 @@ use Rattle.plat_base.specs.declared.items.Item.{Item}
 use Rattle.plat_base.specs.declared.words.Op.{Op}
 use Rattle.plat_base.specs.declared.words.WordName.{WordName}
 use Rattle.plat_events.specs.Operations.{told}
-use Rattle.plat_events.specs.Privates.{Place, Polling, Looking, Applying, Ticking, Switching, Loading, Expecting, Exchanging, Locking, InSession, Leaving, Lessening, Gone, LiveLooking, TimeLooking, Over, NewTurn, Private, actor_count, first_private}
+use Rattle.plat_events.specs.Privates.{Place, Polling, Looking, Applying, Ticking, Switching, Loading, Expecting, Exchanging, Locking}
+use Rattle.plat_events.specs.Privates.{InSession, Leaving, Lessening, Gone, LiveLooking, TimeLooking, Over, NewTurn, Private, actor_count}
+use Rattle.plat_events.specs.Privates.{first_private}
 use Rattle.plat_events.specs.Events.{named_next, placed, next_of, moved_at, item_at, is_followed, after_if, after}
 use Rattle.plat_events.specs.Kept.{word_at, private_of}
 use Rattle.plat_events.specs.Runs.{Fine, fine_start, event_at, event_by, event, run, end_at, ended_by, ends_of}

@@ -1,5 +1,6 @@
 -- the copies of a page in its directory's word: as they are written, module by module from the last, and as they are read
-use Rattle.std.proofs.Common.{◌≡◌, ℕ, zero, suc, ◌+◌, ◌*◌, ◌-◌, ◌^◌, ◌<◌, ◌≤◌, if◌then◌else◌, Bool, true, false, List, [], ◌∷◌, map, Option, Some, None, refl, ap, sym, ◌∙◌, add-one, subst, arith}
+use Rattle.std.proofs.Common.{◌≡◌, ℕ, zero, suc, ◌+◌, ◌*◌, ◌-◌, ◌^◌, ◌<◌, ◌≤◌, if◌then◌else◌, Bool, true, false, List, [], ◌∷◌, map, Option}
+use Rattle.std.proofs.Common.{Some, None, refl, ap, sym, ◌∙◌, add-one, subst, arith}
 use Rattle.std.specs.Prelude.{IsTrue, is_some}
 use Rattle.std.specs.List.{filter_map, range_with_len, cons_option}
 use Rattle.std.proofs.lemmas.Bool.Decides.{nat_tests}

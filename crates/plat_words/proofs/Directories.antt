@@ -1,5 +1,6 @@
 -- the word of a directory is read as that directory, and as locked where its lock is set
-use Rattle.std.proofs.Common.{◌≡◌, ℕ, zero, suc, ◌+◌, ◌*◌, ◌^◌, ◌<◌, if◌then◌else◌, Bool, true, false, List, [], ◌∷◌, ◌++◌, Option, Some, None, refl, ap, sym, ◌∙◌, arith}
+use Rattle.std.proofs.Common.{◌≡◌, ℕ, zero, suc, ◌+◌, ◌*◌, ◌^◌, ◌<◌, if◌then◌else◌, Bool, true, false, List, [], ◌∷◌, ◌++◌, Option, Some}
+use Rattle.std.proofs.Common.{None, refl, ap, sym, ◌∙◌, arith}
 use Rattle.std.specs.Prelude.{IsTrue, is_some, ◌==◌}
 use Rattle.std.specs.List.{filter_map, range_with_len}
 use Rattle.std.proofs.lemmas.Bool.Decides.{nat_tests}
@@ -11,15 +12,13 @@ use Rattle.plat_base.specs.declared.frames.Dir.{Dir}
 use Rattle.plat_base.specs.declared.frames.State.{State}
 use Rattle.plat_base.specs.declared.frames.State.TheVariants.{Empty, Present1, PresentPlus, Modified}
 use Rattle.plat_base.proofs.CopiesLemmas.{copy_on-module, are_copies-lower}
-use Rattle.plat_events.specs.Words.{Field, has_bit, bits_from, bit_if, number_of, copy_read, copies_read, dir_fields, dir_word, dir_read, is_locked, state_numbered}
+use Rattle.plat_events.specs.Words.{Field, has_bit, bits_from, bit_if, number_of, copy_read, copies_read, dir_fields, dir_word, dir_read}
+use Rattle.plat_events.specs.Words.{is_locked, state_numbered}
 use Rattle.plat_words.proofs.Fields.{are_fields, place_at, width_at, value_at, packed_at}
 use Rattle.plat_words.proofs.CopyFields.{module_fields, frame_fields, number_of-below}
+use Rattle.plat_words.proofs.SingleBits.{bit_if-lt, bit_if-eq}
 
 -- ---- the fields fit
-
-bit_if-below : (b : Bool) → bit_if b < 2 ^ 1
-bit_if-below true = omega arith
-bit_if-below false = omega arith
 
 state_number-below : (s : State) → state_number s < 2 ^ 2
 state_number-below Empty = omega arith
@@ -29,7 +28,7 @@ state_number-below Modified = omega arith
 
 modules_fit : (copies : List Frame) (m k : ℕ) (gs : List Field) → are_fields gs → are_fields (module_fields copies m k ++ gs)
 modules_fit copies m zero gs h = h
-modules_fit copies m (suc k) gs h = (bit_if-below (is_some (copy_on m copies)), modules_fit copies (m + 1) k gs h)
+modules_fit copies m (suc k) gs h = (bit_if-lt (is_some (copy_on m copies)), modules_fit copies (m + 1) k gs h)
 
 frames_fit : (copies : List Frame) (m k : ℕ) → AreCopies copies → are_fields (frame_fields copies m k)
 frames_fit copies m zero h = tt
@@ -38,13 +37,9 @@ frames_fit copies m (suc k) h = (number_of-below 0 m copies h, frames_fit copies
 dir_fields_fit : (d : Dir) (locked : Bool) → AreCopies d.copies → are_fields (dir_fields d locked)
 dir_fields_fit d locked h =
     let copies = modules_fit d.copies 0 8 (frame_fields d.copies 0 8) (frames_fit d.copies 0 8 h) in
-    (state_number-below d.state, (bit_if-below d.frozen, (bit_if-below locked, (omega arith, copies))))
+    (state_number-below d.state, (bit_if-lt d.frozen, (bit_if-lt locked, (omega arith, copies))))
 
 -- ---- what is read of one field
-
-bit_if-is : (b : Bool) → (bit_if b == 1) ≡ b
-bit_if-is true = refl
-bit_if-is false = refl
 
 state_number-back : (s : State) → state_numbered (state_number s) ≡ s
 state_number-back Empty = refl
@@ -62,7 +57,7 @@ copy_back :
     (copies : List Frame) (n m : ℕ) → bits_from n (8 + m) 1 ≡ bit_if (is_some (copy_on m copies)) →
     bits_from n (16 + 6 * m) 6 ≡ number_of (copy_on m copies) → copy_read n m ≡ copy_on m copies
 copy_back copies n m h k =
-    let here : has_bit n (8 + m) ≡ is_some (copy_on m copies) = ap (λ b. b == 1) h ∙ bit_if-is (is_some (copy_on m copies)) in
+    let here : has_bit n (8 + m) ≡ is_some (copy_on m copies) = ap (λ b. b == 1) h ∙ bit_if-eq (is_some (copy_on m copies)) in
     ap (λ b. if b then Some (frame_at m (bits_from n (16 + 6 * m) 6)) else None) here
     ∙ ap (λ x. if is_some (copy_on m copies) then Some (frame_at m x) else None) k
     ∙ frame_back m (copy_on m copies) (λ f e. copy_on-module m f copies e)
@@ -123,13 +118,13 @@ copies_read-word d locked h =
     ∙ copies_on 0 8 d.copies h refl
 
 pub is_locked-word : (d : Dir) (locked : Bool) → AreCopies d.copies → is_locked (dir_word d locked) ≡ locked
-is_locked-word d locked h = ap (λ b. b == 1) (field_read d locked 2 h (omega arith)) ∙ bit_if-is locked
+is_locked-word d locked h = ap (λ b. b == 1) (field_read d locked 2 h (omega arith)) ∙ bit_if-eq locked
 
 -- a directory's word is read as that directory
 pub dir_read-word : (d : Dir) (locked : Bool) → AreCopies d.copies → dir_read (dir_word d locked) ≡ d
 dir_read-word d locked h =
     let state : state_numbered (bits_from (dir_word d locked) 0 2) ≡ d.state =
     ap state_numbered (field_read d locked 0 h (omega arith)) ∙ state_number-back d.state in
-    let frozen : has_bit (dir_word d locked) 2 ≡ d.frozen = ap (λ b. b == 1) (field_read d locked 1 h (omega arith)) ∙ bit_if-is d.frozen in
+    let frozen : has_bit (dir_word d locked) 2 ≡ d.frozen = ap (λ b. b == 1) (field_read d locked 1 h (omega arith)) ∙ bit_if-eq d.frozen in
     let copies : copies_read (dir_word d locked) ≡ d.copies = copies_read-word d locked h in
     λ i. record { state = state i; frozen = frozen i; copies = copies i }

@@ -3,7 +3,6 @@ pub mod SingleBits
 pub mod Sames
 pub mod CopyFields
 pub mod Directories
-pub mod Entries
 pub mod PlacesApart
 pub mod Masks
 pub mod Locks

@@ -2,7 +2,7 @@
 use Rattle.std.proofs.Common.{◌≡◌, ℕ, ◌+◌, ◌-◌, ◌^◌, ◌<◌, ◌≤◌, Bool, true, false, [], ◌∷◌, ◌++◌, refl, inl, inr, ap, sym, subst, ◌∙◌, arith}
 use Rattle.std.specs.Prelude.{◌==◌, ◌&&◌, ◌||◌, not, bit_and, bit_or, IsTrue}
 use Rattle.std.proofs.lemmas.Bool.Decides.{nat_tests}
-use Rattle.std.proofs.lemmas.Bool.{cases_lt}
+use Rattle.std.proofs.lemmas.Bool.{cases_lt, and_right}
 use Rattle.std.specs.Int.{bit_at}
 use Rattle.std.proofs.lemmas.Nat.{or_lt, pow_below, and_le_l}
 use Rattle.std.proofs.lemmas.Nat.Bits.{same_from_bits_below, bit_at-lt, bit_at-zero}
@@ -11,9 +11,11 @@ use Rattle.plat_base.specs.declared.items.Message.TheVariants.{Invalidate, Restr
 use Rattle.plat_base.specs.declared.items.Message.{Message}
 use Rattle.plat_base.specs.declared.items.Removed.{Removed}
 use Rattle.plat_base.specs.declared.items.Removed.TheVariants.{Nothing, Writes, All}
-use Rattle.plat_events.specs.Words.{packed, has_bit, bits_from, bit_fields, has_reference, has_invalidate, has_restrict, has_references, mask_word, posted_mask, bits_applied, all_but}
+use Rattle.plat_events.specs.Words.{packed, has_bit, bits_from, bit_fields, has_reference, has_invalidate, has_restrict, has_references}
+use Rattle.plat_events.specs.Words.{mask_word, posted_mask, bits_applied, all_but}
 use Rattle.plat_events.specs.Places.{is_mask_word}
-use Rattle.plat_words.proofs.SingleBits.{has_bit-pow, has_bit-set, has_bit-cleared, has_bit-above, has_bit-field, field_below, has_bit-within, has_bit-behind, bits_between-below, bits_above}
+use Rattle.plat_words.proofs.SingleBits.{has_bit-pow, has_bit-set, has_bit-cleared, has_bit-above, has_bit-field, field_below}
+use Rattle.plat_words.proofs.SingleBits.{has_bit-within, has_bit-behind, bits_between-below, bits_above}
 
 -- ---- a mask by its tests
 
@@ -171,7 +173,7 @@ has_restrict-invalidated n a q h l =
     ∙ ap (λ b. has_restrict n q && not b) (has_restrict-parts (2 ^ a) (2 ^ a) (2 ^ a) q (own_parts a h) l ∙ has_bit-pow a q)
 
 -- a restrict clears its own bit alone
-has_bit-none : (i : ℕ) → has_bit 0 i ≡ false
+pub has_bit-none : (i : ℕ) → has_bit 0 i ≡ false
 has_bit-none i = ap (λ b. b == 1) (bit_at-zero i)
 
 kept_bit : (b : Bool) → (b && not false) ≡ b
@@ -228,15 +230,11 @@ mask_word-mask m f g h none = record {
       (has_reference-mask_word f g h q l ∙ n.0, has_invalidate-mask_word f g h q l ∙ n.1, has_restrict-mask_word f g h q l ∙ n.2);
 }
 
-no_other : (o b : Bool) → b ≡ false → (o && b) ≡ false
-no_other true b h = h
-no_other false b h = refl
-
 no_invalidate : (o r i : Bool) → r ≡ false → i ≡ false → (o && (i || r)) ≡ false
-no_invalidate o r i h k = no_other o (i || r) (ap (λ b. b || r) k ∙ h)
+no_invalidate o r i h k = and_right o (i || r) (ap (λ b. b || r) k ∙ h)
 
 no_restrict : (o r i s : Bool) → r ≡ false → s ≡ false → (s || (o && r && not i)) ≡ false
-no_restrict o r i s h k = ap (λ b. b || (o && r && not i)) k ∙ ap (λ b. b && not i) (no_other o r h)
+no_restrict o r i s h k = ap (λ b. b || (o && r && not i)) k ∙ ap (λ b. b && not i) (and_right o r h)
 
 pub posted-mask : (m : Machine) (n a : ℕ) (rem : Removed) → IsMask m n → IsMask m (posted_mask rem a n)
 posted-mask m n a Nothing is = is
@@ -247,9 +245,9 @@ posted-mask m n a Writes is = mask_word-mask m (has_reference n) (has_invalidate
 posted-mask m n a All is = mask_word-mask m (λ q. not (q == a) && has_reference n q)
     (λ q. not (q == a) && (has_invalidate n q || has_reference n q)) (λ q. not (q == a) && has_restrict n q)
     (λ q l p. let old = is.processors q l p in (
-      no_other (not (q == a)) (has_reference n q) old.0,
+      and_right (not (q == a)) (has_reference n q) old.0,
       no_invalidate (not (q == a)) (has_reference n q) (has_invalidate n q) old.0 old.1,
-      no_other (not (q == a)) (has_restrict n q) old.2,
+      and_right (not (q == a)) (has_restrict n q) old.2,
     ))
 
 -- ---- whether there is a reference

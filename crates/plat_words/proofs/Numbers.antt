@@ -3,7 +3,8 @@ use Rattle.std.proofs.Common.{◌≡◌, ℕ, ◌+◌, ◌-◌, ◌*◌, ◌%◌
 use Rattle.std.specs.Prelude.{IsTrue}
 use Rattle.std.proofs.lemmas.Bool.Decides.{nat_tests}
 use Rattle.plat_base.specs.Machine.{Machine}
-use Rattle.plat_events.specs.Words.{bits_from, data_word, value_read, version_read, stamp_word, last_number, last_numbered, last_read, seq_read}
+use Rattle.plat_events.specs.Words.{bits_from, data_word, value_read, version_read, stamp_word, last_number, last_numbered, last_read}
+use Rattle.plat_events.specs.Words.{seq_read}
 use Rattle.plat_events.specs.Places.{is_data_word, is_stamp_word}
 
 -- ---- words of frames

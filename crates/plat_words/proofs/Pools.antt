@@ -1,5 +1,6 @@
 -- pools: the lowest free frame, a pool without it, and a frame that is given back
-use Rattle.std.proofs.Common.{◌≡◌, ℕ, zero, suc, ◌+◌, ◌-◌, ◌*◌, ◌/◌, ◌%◌, ◌^◌, ◌<◌, ◌≤◌, Bool, true, false, Some, inl, inr, ap, sym, ◌∙◌, arith}
+use Rattle.std.proofs.Common.{◌≡◌, ℕ, zero, suc, ◌+◌, ◌-◌, ◌*◌, ◌/◌, ◌%◌, ◌^◌, ◌<◌, ◌≤◌, Bool, true, false, Some, inl, inr, ap, sym, ◌∙◌}
+use Rattle.std.proofs.Common.{arith}
 use Rattle.std.specs.Prelude.{◌==◌, ◌&&◌, ◌||◌, not, bit_and, bit_or, find, unwrap_or}
 use Rattle.std.specs.Int.{bit_at, trailing_zeros, w64}
 use Rattle.std.specs.List.{range_with_len}
@@ -11,19 +12,7 @@ use Rattle.std.proofs.lemmas.Nat.Bits.{bit_at-trailing_zeros, and_pow, bit_at-lt
 use Rattle.std.specs.Int.Bits.{and_self, and_zero_l}
 use Rattle.plat_events.specs.Words.{has_bit, all_but, lowest_free, without_lowest}
 use Rattle.plat_words.proofs.SingleBits.{has_bit-pow, has_bit-set, has_bit-cleared, has_bit-above, no_bit, bit_at-low}
-
--- the first number of a range that passes a test
-find_range :
-    (p : ℕ → Bool) (a k i : ℕ) → a ≤ i → i < a + k → p i ≡ true → ((j : ℕ) → a ≤ j → j < i → p j ≡ false) →
-    find p (range_with_len a k) ≡ Some i
-find_range p a zero i h l t f = absurd (omega arith)
-find_range p a (suc k) i h l t f =
-    elim (cases_eq a i) [
-      | inl e ↦ (let here : p a ≡ true = ap p e ∙ t in grind arith)
-      | inr e ↦ (
-          let other : p a ≡ false = f a (omega arith) (omega arith) in
-          let rest = find_range p (a + 1) k i (omega arith) (omega arith) t (λ j m n. f j (omega arith) n) in grind (arith, rest))
-    ]
+use Rattle.plat_base.proofs.ListLemmas.{find-range_first}
 
 -- the lowest free frame, as the number of zeros below it
 pub lowest_free-zeros : (n : ℕ) → 0 < n → n < 2 ^ 64 → lowest_free n ≡ trailing_zeros w64 n
@@ -31,7 +20,7 @@ unfolding lowest_free
 lowest_free-zeros n h k =
     let z = bit_at-trailing_zeros w64 n h k in
     ap (λ o. unwrap_or o 0)
-    (find_range (has_bit n) 0 64 (trailing_zeros w64 n) (omega arith) (omega (arith, z.0)) (ap (λ b. b == 1) z.1)
+    (find-range_first (has_bit n) 0 64 (trailing_zeros w64 n) (omega arith) (omega (arith, z.0)) (ap (λ b. b == 1) z.1)
     (λ j l m. ap (λ b. b == 1) (z.2 j m)))
 
 pub record IsLowest (n t : ℕ) : Type 0 where
@@ -103,10 +92,6 @@ without_lowest-and n h k =
     let pos = pow_pos t in
     let less : n - 1 ≡ (q * 2 ^ 1 + 0) * 2 ^ t + (2 ^ t - 1) = omega (arith, whole, pos) in
     ap (λ x. bit_and x (n - 1)) whole ∙ ap (λ x. bit_and ((q * 2 ^ 1 + 1) * 2 ^ t + 0) x) less ∙ less_one q t ∙ omega (arith, whole, pos)
-
--- a frame is given back
-pub has_bit-given : (n j i : ℕ) → has_bit (bit_or n (2 ^ j)) i ≡ (has_bit n i || i == j)
-has_bit-given n j i = has_bit-set n j i
 
 pub given_below : (n j frames : ℕ) → n < 2 ^ frames → j < frames → bit_or n (2 ^ j) < 2 ^ frames
 given_below n j frames h k = or_lt frames n (2 ^ j) h (pow_below j frames k)

@@ -6,7 +6,8 @@ use mathlib.Core.Path.{to_path_p}
 use Rattle.std.proofs.Math.Bool.{Bool-set}
 use Rattle.plat_base.specs.Copies.{AreCopies}
 use Rattle.plat_base.specs.declared.frames.Dir.{Dir}
-use Rattle.plat_events.specs.Words.{bits_from, last_number, last_numbered, state_numbered, has_bit, copies_read, dir_word, dir_read, is_locked}
+use Rattle.plat_events.specs.Words.{bits_from, last_number, last_numbered, state_numbered, has_bit, copies_read, dir_word, dir_read}
+use Rattle.plat_events.specs.Words.{is_locked}
 use Rattle.plat_words.proofs.Numbers.{last_back}
 use Rattle.plat_words.proofs.Directories.{dir_read-word, is_locked-word}
 use Rattle.plat_words.specs.declared.cmap_words.CmapWord.{CmapWord}

@@ -1,5 +1,6 @@
 -- single bits of a word: after a bit is set or cleared, in a field, and how large a number with few bits is
-use Rattle.std.proofs.Common.{◌≡◌, ℕ, zero, suc, ◌+◌, ◌-◌, ◌*◌, ◌/◌, ◌%◌, ◌^◌, ◌<◌, ◌≤◌, min, max, Bool, true, false, List, ◌++◌, map, refl, inl, inr, ap, sym, ◌∙◌, arith}
+use Rattle.std.proofs.Common.{◌≡◌, ℕ, zero, suc, ◌+◌, ◌-◌, ◌*◌, ◌/◌, ◌%◌, ◌^◌, ◌<◌, ◌≤◌, min, max, Bool, true, false, List, ◌++◌, map, refl}
+use Rattle.std.proofs.Common.{inl, inr, ap, sym, ◌∙◌, arith}
 use Rattle.std.specs.Prelude.{◌==◌, ◌&&◌, ◌||◌, not, bit_and, bit_or, ◌≢◌}
 use Rattle.std.specs.Int.{bit_at, w64}
 use Rattle.std.specs.List.{range_with_len}
@@ -7,7 +8,8 @@ use Rattle.std.proofs.lemmas.Bool.Decides.{nat_tests}
 use Rattle.std.proofs.lemmas.Bool.{cases_eq, cases_lt}
 use Rattle.std.proofs.Math.Nat.{pow-suc}
 use Rattle.std.proofs.lemmas.Nat.{shr-shr, shr_split, pow_pos, mod_below}
-use Rattle.std.proofs.lemmas.Nat.Bits.{bit_at_and, bit_at_or, bit_at-pow_same, bit_at-pow_other, bit_at_not, bit_at-lt, bit_at_above, same_from_bits, bit_at-zero, bit_at_cat_low}
+use Rattle.std.proofs.lemmas.Nat.Bits.{bit_at_and, bit_at_or, bit_at-pow_same, bit_at-pow_other, bit_at_not, bit_at-lt, bit_at_above}
+use Rattle.std.proofs.lemmas.Nat.Bits.{same_from_bits, bit_at-zero, bit_at_cat_low}
 use Rattle.plat_events.specs.Words.{Field, packed, has_bit, bits_from, bit_if, all_but}
 use Rattle.plat_words.proofs.Fields.{packed_behind, packed_first}
 
@@ -41,7 +43,7 @@ bit_and-tests a b h k = grind (arith, nat_tests)
 pub has_bit-and : (a b i : ℕ) → has_bit (bit_and a b) i ≡ (has_bit a i && has_bit b i)
 has_bit-and a b i = ap (λ x. x == 1) (bit_at_and a b i) ∙ bit_and-tests (bit_at a i) (bit_at b i) (bit_at-lt a i) (bit_at-lt b i)
 
-not-test : (a : ℕ) → a < 2 → (1 - a == 1) ≡ not (a == 1)
+pub not-test : (a : ℕ) → a < 2 → (1 - a == 1) ≡ not (a == 1)
 not-test a h = grind (arith, nat_tests)
 
 pub has_bit-all_but : (b i : ℕ) → b < 2 ^ 64 → i < 64 → has_bit (all_but b) i ≡ not (has_bit b i)
@@ -100,11 +102,11 @@ field_below n p w k h =
 abbrev pub bits_between : (ℕ → Bool) → (m k : ℕ) → List Field
 bits_between f m k = map (λ q. (bit_if (f q), 1)) (range_with_len m k)
 
-bit_if-lt : (b : Bool) → bit_if b < 2 ^ 1
+pub bit_if-lt : (b : Bool) → bit_if b < 2 ^ 1
 bit_if-lt true = omega arith
 bit_if-lt false = omega arith
 
-bit_if-eq : (b : Bool) → (bit_if b == 1) ≡ b
+pub bit_if-eq : (b : Bool) → (bit_if b == 1) ≡ b
 bit_if-eq true = refl
 bit_if-eq false = refl
 

@@ -1,7 +1,8 @@
 -- the numbers that the words of this crate are written as
 use Rattle.std.specs.Prelude.{◌≡◌, ℕ, ◌*◌, ◌^◌, ◌<◌, [], ◌∷◌}
 use Rattle.plat_base.specs.declared.frames.Dir.{Dir}
-use Rattle.plat_events.specs.Words.{most_nodes, packed, bits_from, dir_word, dir_read, is_locked, stamp_word, last_read, seq_read, data_word, value_read, version_read}
+use Rattle.plat_events.specs.Words.{most_nodes, packed, bits_from, dir_word, dir_read, is_locked, stamp_word, last_read, seq_read}
+use Rattle.plat_events.specs.Words.{data_word, value_read, version_read}
 use Rattle.plat_words.specs.declared.dir_words.DirWord.{DirWord}
 use Rattle.plat_words.specs.declared.cmap_words.CmapWord.{CmapWord}
 use Rattle.plat_words.specs.declared.stamp_words.StampWord.{StampWord}

@@ -7,12 +7,13 @@ ghost use Rattle.plat_events.specs.Places.{place_of, is_name, word_count};
 use plat_base::{Config, WordName};
 
 /// The place of a shared word of the machine, from 0. Words of one kind stand side by side.
-#[tactic(auto, using(crate::proofs::Entries::entries_most_of))]
+#[tactic(auto, using(plat_base::proofs::EntryLimits::entries_most_of))]
 pub fn place(cfg: &Config, name: WordName) -> usize
     requires { IsTrue (is_name (machine cfg.now) name) }
     ensures at { result ≡ place_of (machine cfg.now) name }
     ensures within { result < word_count (machine cfg.now) }
-    ensures apart { (other : WordName) → IsTrue (is_name (machine cfg.now) other) → place_of (machine cfg.now) other ≡ result → other ≡ name }
+    ensures apart { (other : WordName) → IsTrue (is_name (machine cfg.now) other) →
+        place_of (machine cfg.now) other ≡ result → other ≡ name }
 {
     let nodes = cfg.nodes as usize;
     let pages = cfg.pages as usize;

@@ -1,34 +1,34 @@
-use Rattle.std.proofs.Common.{arith, inl, inr}
-use Rattle.std.proofs.lemmas.Bool.{cases_eq}
-use Rattle.std.proofs.lemmas.Bool.Decides.{nat_tests}
+use Rattle.std.proofs.Common.{◌≡◌, ℕ, ◌<◌, ◌≤◌, List, length, take, get_or, ap, ◌∙◌, refl, arith}
+use Rattle.std.specs.Prelude.{◌==◌}
+use Rattle.std.specs.List.{list_any}
+use Rattle.std.proofs.lemmas.List.{take_all}
 use Rattle.plat_base.specs.Seen.{machine}
-use Rattle.plat_guest.proofs.LimitsLemmas.{entries_below}
+use Rattle.plat_base.specs.Pages.{page_of, entries_of_page}
+use Rattle.plat_chronicle.proofs.EntryLemmas.{entries_of_page-below, entries_of_page-has, page_of-none}
 use Rattle.plat_chronicle.proofs.translations.remove_own.Goals as goal
-use Rattle.plat_chronicle.proofs.translations.remove_own.Goals.{then-page_of-page, else-page_of-page}
 
-pub overflow_cast-entry : goal.overflow_cast-entry
-overflow_cast-entry c =
-    let few = entries_below (machine c.args.cfg.now) c.args.cfg.now.short in
-    let here = c.loop-number-test.true in
-    let is = c.len-number-end.ensures in
-    grind (arith, few, here, is)
+pub returns-then-page-ge-PAGES-clause-places : goal.returns-then-page-ge-PAGES-clause-places
+returns-then-page-ge-PAGES-clause-places c = λ entry within.
+    rw (page_of-none (machine c.args.cfg.now) c.args.page c.args.cfg.now.limits c.if-page-ge-PAGES.true entry
+    (omega (arith, within, c.requires))) refl
 
--- an entry before the next one, or that one
-pub loop-number-preserved : goal.loop-number-preserved
-loop-number-preserved c =
-    elim c.if-page_of-page.branch [
-      | then-page_of-page w ↦ (
-        grind (arith, nat_tests),
-        λ entry within. elim (cases_eq entry c.loop-number.number) [
-          | inl same ↦ grind (arith, nat_tests, c.loop-number.invariant.1 entry, w.remove_entry.ensures.kept, c.page_of.ensures.page)
-          | inr differ ↦ grind (arith, nat_tests, c.loop-number.invariant.1 entry, w.remove_entry.ensures.same entry differ)
-        ],
-      )
-      | else-page_of-page w ↦ (
-        grind (arith, nat_tests),
-        λ entry within. elim (cases_eq entry c.loop-number.number) [
-          | inl same ↦ grind (arith, nat_tests, c.loop-number.invariant.1 entry, c.page_of.ensures.page)
-          | inr differ ↦ grind (arith, nat_tests, c.loop-number.invariant.1 entry)
-        ],
-      )
-    ]
+pub remove_entry-requires : goal.remove_entry-requires
+remove_entry-requires c =
+    let m = machine c.args.cfg.now in
+    let is = c.entries_of_page-entry-items.ensures in
+    let place = c.loop-entry.entry-index in
+    let inside : place < length (entries_of_page m c.args.page) = omega (arith, c.loop-entry-test.true, ap length is) in
+    let below = entries_of_page-below m c.args.page place 0 inside in
+    omega (arith, ap (λ (es : List ℕ). get_or es place 0) is, below, c.loop-entry.invariant.0, c.requires)
+
+-- all of the page's entries are done
+pub returns-clause-places : goal.returns-clause-places
+returns-clause-places c = λ entry within.
+    let m = machine c.args.cfg.now in
+    let is = c.entries_of_page-entry-items.ensures in
+    let place = c.loop-entry.entry-index in
+    let past : length (entries_of_page m c.args.page) ≤ place = omega (arith, c.loop-entry-test.false, ap length is) in
+    let all : list_any (λ k. k == entry) (take place (entries_of_page m c.args.page)) ≡ (page_of m entry == c.args.page) =
+    ap (list_any (λ k. k == entry)) (take_all place (entries_of_page m c.args.page) past)
+    ∙ entries_of_page-has m c.args.page entry (omega (arith, within, c.requires)) in
+    grind (arith, all, c.loop-entry.invariant.0, c.loop-entry.invariant.1 entry)

@@ -25,7 +25,8 @@ returns c =
     let all = ap (λ (a : App). all_of (codes "words") (matches_of a words)) app_is ∙ read.read
     in record {
       values = IfOk-weaker parse.result _ _
-          (λ m h. raw_values-rows (found_of m) (codes "words") ∙ (ap (all_of (codes "words")) (h (ap is_simple app_is ∙ command-simple)).0 ∙ all))
+          (λ m h. raw_values-rows (found_of m) (codes "words")
+          ∙ (ap (all_of (codes "words")) (h (ap is_simple app_is ∙ command-simple)).0 ∙ all))
           parse.ensures.matches;
       memory = IfErr-weaker parse.result _ _ (λ e h. h taken) parse.ensures.passes;
     }

@@ -12,7 +12,8 @@ returns g c =
     let now_is = c.without_run.ensures.status ∙ c.status_after.ensures in
     record {
       written =
-          written_by g.K.Sink c.args.sink.now c.print_machine-written.new.sink c.print_machine-written.result (canon_text m) status.Done c.without_run.result.status
+          written_by g.K.Sink c.args.sink.now c.print_machine-written.new.sink c.print_machine-written.result (canon_text m) status.Done
+          c.without_run.result.status
           (λ is. cc) now_is c.print_machine-written.ensures.written;
       ended = ended_by c.print_machine-written.result status.Done c.without_run.result.status now_is;
       text = c.print_machine-written.ensures.text;

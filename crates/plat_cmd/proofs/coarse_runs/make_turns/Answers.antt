@@ -31,7 +31,8 @@ loop-turn-preserved g c =
       policy = c.next_turn.ensures.policy ∙ c.loop-turn.invariant.policy;
       plan = c.next_turn.ensures.plan ∙ c.loop-turn.invariant.plan;
       run =
-          next_turn_is c.args.coarse.now.machine c.loop-turn.coarse.machine (answer c.args.coarse.now.policy) (answer c.loop-turn.coarse.policy)
+          next_turn_is c.args.coarse.now.machine c.loop-turn.coarse.machine (answer c.args.coarse.now.policy)
+          (answer c.loop-turn.coarse.policy)
           (standing c.loop-turn.coarse c.loop-turn.schedule) (standing c.next_turn.new.coarse c.next_turn.new.schedule)
           c.loop-turn._turn c.loop-turn.invariant.config (ap answer c.loop-turn.invariant.policy)
           c.loop-turn.invariant.run c.next_turn.ensures.turn;

@@ -10,7 +10,8 @@ returns-in-Ok g c =
     let told = g.S.Source.left c.args.source.now in
     let left = g.S.Source.left c.read_machine.new.source in
     let read = c.read_machine.result in
-    did command.Check g.S.Source g.K.Sink c.args.source.now c.read_machine.new.source c.args.sink.now c.print.new.sink c.print.result (machine c.in-Ok.cfg)
+    did command.Check g.S.Source g.K.Sink c.args.source.now c.read_machine.new.source c.args.sink.now c.print.new.sink c.print.result
+    (machine c.in-Ok.cfg)
     (told_as told left read c.in-Ok.cfg c.in-Ok.is c.read_machine.ensures.found c.read_machine.ensures.exact c.read_machine.ensures.all)
     c.print.ensures (only_it machine_text told read machine c.read_machine.ensures.only c.in-Ok.cfg c.in-Ok.is) c.read_machine.ensures.count
     (takes_ok machine_text told left read c.in-Ok.cfg c.in-Ok.is c.read_machine.ensures.taken)
@@ -20,8 +21,15 @@ returns-in-Err g c =
     let told = g.S.Source.left c.args.source.now in
     let left = g.S.Source.left c.read_machine.new.source in
     let read = c.read_machine.result in
-    stopped command.Check g.S.Source g.K.Sink c.args.source.now c.read_machine.new.source c.args.sink.now c.args.sink.now c.without_run.result c.in-Err.stop
-    (stop_is machine_text told read (g.S.Source.faults c.args.source.now) (g.S.Source.faults c.read_machine.new.source) c.in-Err.stop c.in-Err.is c.read_machine.ensures.stopped)
-    tt (record { ended = c.without_run.ensures.status ∙ c.stop_status.ensures; history = c.without_run.ensures.kept; no_threads = c.without_run.ensures.ran; sink = refl })
+    stopped command.Check g.S.Source g.K.Sink c.args.source.now c.read_machine.new.source c.args.sink.now c.args.sink.now
+    c.without_run.result c.in-Err.stop
+    (stop_is machine_text told read (g.S.Source.faults c.args.source.now) (g.S.Source.faults c.read_machine.new.source) c.in-Err.stop
+    c.in-Err.is c.read_machine.ensures.stopped)
+    tt (record {
+      ended = c.without_run.ensures.status ∙ c.stop_status.ensures;
+      history = c.without_run.ensures.kept;
+      no_threads = c.without_run.ensures.ran;
+      sink = refl;
+    })
     (not_refused machine_text told read machine c.read_machine.ensures.only c.in-Err.stop c.in-Err.is) c.read_machine.ensures.count
     (takes_err machine_text told left read c.in-Err.stop c.in-Err.is c.read_machine.ensures.taken)

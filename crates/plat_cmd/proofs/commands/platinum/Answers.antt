@@ -52,7 +52,8 @@ returns-in-Ok-Gen-clause-named g c =
     (c.in-Ok-Gen.is ∙ ap (λ (d : Command). Ok d) c.in-Ok-Gen.field-0-is)
     (λ d. Promises d g.S.Source g.K.Sink c.args.source.now c.args.source.now c.args.sink.now c.print_nth.new.sink c.print_nth.result)
     c.read_words.ensures.command c.read_words.ensures.bad_words
-    (printed_or_not g.S.Source g.K.Sink c.args.source.now c.args.sink.now c.print_nth.new.sink c.print_nth.result c.in-Ok-Gen.n c.print_nth.ensures)
+    (printed_or_not g.S.Source g.K.Sink c.args.source.now c.args.sink.now c.print_nth.new.sink c.print_nth.result c.in-Ok-Gen.n
+    c.print_nth.ensures)
 
 pub returns-in-Ok-Gen-clause-bad_words : goal.returns-in-Ok-Gen-clause-bad_words
 returns-in-Ok-Gen-clause-bad_words g c =
@@ -66,7 +67,8 @@ returns-in-Ok-Big-clause-named g c =
     (c.in-Ok-Big.is ∙ ap (λ (d : Command). Ok d) c.in-Ok-Big.field-0-is)
     (λ d. Promises d g.S.Source g.K.Sink c.args.source.now c.args.source.now c.args.sink.now c.sum_nth.new.sink c.sum_nth.result)
     c.read_words.ensures.command c.read_words.ensures.bad_words
-    (summed_or_not g.S.Source g.K.Sink c.args.source.now c.args.sink.now c.sum_nth.new.sink c.sum_nth.result c.in-Ok-Big.n c.sum_nth.ensures)
+    (summed_or_not g.S.Source g.K.Sink c.args.source.now c.args.sink.now c.sum_nth.new.sink c.sum_nth.result c.in-Ok-Big.n
+    c.sum_nth.ensures)
 
 pub returns-in-Ok-Big-clause-bad_words : goal.returns-in-Ok-Big-clause-bad_words
 returns-in-Ok-Big-clause-bad_words g c =

@@ -9,11 +9,13 @@ pub returns-in-Ok : goal.returns-in-Ok
 returns-in-Ok g c =
     did command.Race g.S.Source g.K.Sink c.args.source.now c.read_judged.new.source c.args.sink.now c.raced.new.sink c.raced.result
     (seen c.in-Ok.judged.history) c.in-Ok.ensures.read c.raced.ensures c.in-Ok.ensures.only c.read_judged.ensures.count
-    (takes_ok history_text (g.S.Source.left c.args.source.now) (g.S.Source.left c.read_judged.new.source) c.read_judged.result c.in-Ok.judged c.in-Ok.is c.read_judged.ensures.taken)
+    (takes_ok history_text (g.S.Source.left c.args.source.now) (g.S.Source.left c.read_judged.new.source) c.read_judged.result
+    c.in-Ok.judged c.in-Ok.is c.read_judged.ensures.taken)
 
 pub returns-in-Err : goal.returns-in-Err
 returns-in-Err g c =
     failed command.Race g.S.Source g.K.Sink c.args.source.now c.read_judged.new.source c.args.sink.now c.args.sink.now c.without_run.result
     c.in-Err.status c.in-Err.ensures.failed c.without_run.ensures.status (λ s. tt) c.without_run.ensures.kept c.without_run.ensures.ran refl
     c.read_judged.ensures.count
-    (takes_err history_text (g.S.Source.left c.args.source.now) (g.S.Source.left c.read_judged.new.source) c.read_judged.result c.in-Err.status c.in-Err.is c.read_judged.ensures.taken)
+    (takes_err history_text (g.S.Source.left c.args.source.now) (g.S.Source.left c.read_judged.new.source) c.read_judged.result
+    c.in-Err.status c.in-Err.is c.read_judged.ensures.taken)

@@ -31,9 +31,11 @@ returns-in-Report g c =
     (told_as told left read c.in-Ok.cfg c.in-Ok.is c.read_machine.ensures.found c.read_machine.ensures.exact c.read_machine.ensures.all) run
     (only_it machine_text told read machine c.read_machine.ensures.only c.in-Ok.cfg c.in-Ok.is) c.read_machine.ensures.count
     (takes_ok machine_text told left read c.in-Ok.cfg c.in-Ok.is c.read_machine.ensures.taken))
-    (λ has. stopped sim g.S.Source g.K.Sink c.args.source.now c.read_machine.new.source c.args.sink.now c.simulate.new.sink out stop.OutOfMemory tt tt has
+    (λ has. stopped sim g.S.Source g.K.Sink c.args.source.now c.read_machine.new.source c.args.sink.now c.simulate.new.sink out
+    stop.OutOfMemory tt tt has
     (told_all machine_text told (λ it. IsNoRefusal (stop_status stop.OutOfMemory)) (λ it. inr refl)) c.read_machine.ensures.count
-    (takes_short machine_text told left ⊥ (stop.OutOfMemory ≡ stop.Refused too_long) (λ f. f) (λ is. cc) (takes_ok machine_text told left read c.in-Ok.cfg c.in-Ok.is c.read_machine.ensures.taken))) c.simulate.ensures)
+    (takes_short machine_text told left ⊥ (stop.OutOfMemory ≡ stop.Refused too_long) (λ f. f) (λ is. cc)
+    (takes_ok machine_text told left read c.in-Ok.cfg c.in-Ok.is c.read_machine.ensures.taken))) c.simulate.ensures)
 
 pub returns-in-Trace : goal.returns-in-Trace
 returns-in-Trace g c =
@@ -50,18 +52,27 @@ returns-in-Trace g c =
     (told_as told left read c.in-Ok.cfg c.in-Ok.is c.read_machine.ensures.found c.read_machine.ensures.exact c.read_machine.ensures.all) run
     (only_it machine_text told read machine c.read_machine.ensures.only c.in-Ok.cfg c.in-Ok.is) c.read_machine.ensures.count
     (takes_ok machine_text told left read c.in-Ok.cfg c.in-Ok.is c.read_machine.ensures.taken))
-    (λ has. stopped sim g.S.Source g.K.Sink c.args.source.now c.read_machine.new.source c.args.sink.now c.trace.new.sink out stop.OutOfMemory tt tt has
+    (λ has. stopped sim g.S.Source g.K.Sink c.args.source.now c.read_machine.new.source c.args.sink.now c.trace.new.sink out
+    stop.OutOfMemory tt tt has
     (told_all machine_text told (λ it. IsNoRefusal (stop_status stop.OutOfMemory)) (λ it. inr refl)) c.read_machine.ensures.count
-    (takes_short machine_text told left ⊥ (stop.OutOfMemory ≡ stop.Refused too_long) (λ f. f) (λ is. cc) (takes_ok machine_text told left read c.in-Ok.cfg c.in-Ok.is c.read_machine.ensures.taken))) c.trace.ensures)
+    (takes_short machine_text told left ⊥ (stop.OutOfMemory ≡ stop.Refused too_long) (λ f. f) (λ is. cc)
+    (takes_ok machine_text told left read c.in-Ok.cfg c.in-Ok.is c.read_machine.ensures.taken))) c.trace.ensures)
 
 pub returns-in-Err : goal.returns-in-Err
 returns-in-Err g c =
     let told = g.S.Source.left c.args.source.now in
     let left = g.S.Source.left c.read_machine.new.source in
     let read = c.read_machine.result in
-    stopped (command.Sim c.args.grain c.args.output) g.S.Source g.K.Sink c.args.source.now c.read_machine.new.source c.args.sink.now c.args.sink.now c.without_run.result
+    stopped (command.Sim c.args.grain c.args.output) g.S.Source g.K.Sink c.args.source.now c.read_machine.new.source c.args.sink.now
+    c.args.sink.now c.without_run.result
     c.in-Err.stop
-    (stop_is machine_text told read (g.S.Source.faults c.args.source.now) (g.S.Source.faults c.read_machine.new.source) c.in-Err.stop c.in-Err.is c.read_machine.ensures.stopped)
-    tt (record { ended = c.without_run.ensures.status ∙ c.stop_status.ensures; history = c.without_run.ensures.kept; no_threads = c.without_run.ensures.ran; sink = refl })
+    (stop_is machine_text told read (g.S.Source.faults c.args.source.now) (g.S.Source.faults c.read_machine.new.source) c.in-Err.stop
+    c.in-Err.is c.read_machine.ensures.stopped)
+    tt (record {
+      ended = c.without_run.ensures.status ∙ c.stop_status.ensures;
+      history = c.without_run.ensures.kept;
+      no_threads = c.without_run.ensures.ran;
+      sink = refl;
+    })
     (not_refused machine_text told read machine c.read_machine.ensures.only c.in-Err.stop c.in-Err.is) c.read_machine.ensures.count
     (takes_err machine_text told left read c.in-Err.stop c.in-Err.is c.read_machine.ensures.taken)

@@ -10,7 +10,8 @@ use Rattle.plat_cmd.proofs.fine_runs.live_word.Goals.{then-live, else-live}
 
 pub loop-actor-preserved : goal.loop-actor-preserved
 loop-actor-preserved c =
-    let low : c.loop-actor.actor < 32 = omega (arith, nodes-most (machine c.config.result.now) c.config.result.now.limits, c.loop-actor-test.true) in
+    let low : c.loop-actor.actor < 32 =
+    omega (arith, nodes-most (machine c.config.result.now) c.config.result.now.limits, c.loop-actor-test.true) in
     elim c.if-live.branch [
       | then-live w ↦
           rw w.live-is
@@ -45,4 +46,5 @@ returns c =
     actors_are (is_live privates) (length privates) c.loop-actor.live (omega (arith, most, same, some, count))
     (λ a l. c.loop-actor.invariant.set a (omega arith))
     (λ a l m.
-    clear_or_absent privates c.loop-actor.live c.loop-actor.actor a (c.loop-actor.invariant.set a) (λ behind. c.loop-actor.invariant.clear a behind m) l)
+    clear_or_absent privates c.loop-actor.live c.loop-actor.actor a (c.loop-actor.invariant.set a)
+    (λ behind. c.loop-actor.invariant.clear a behind m) l)

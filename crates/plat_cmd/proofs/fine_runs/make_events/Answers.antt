@@ -11,7 +11,8 @@ pub next_event-requires : goal.next_event-requires
 next_event-requires c = record {
   plan = c.loop-event.invariant.plan ∙ ap (λ (m : Machine). m.schedule) (sym c.loop-event.invariant.config);
   actors =
-      actors_are_there c.args.fine.now.machine c.loop-event.fine.machine (standing_fine c.loop-event.fine c.loop-event.schedule) c.loop-event._event
+      actors_are_there c.args.fine.now.machine c.loop-event.fine.machine (standing_fine c.loop-event.fine c.loop-event.schedule)
+      c.loop-event._event
       c.loop-event.invariant.config c.loop-event.invariant.run;
 }
 

@@ -7,7 +7,8 @@ use Rattle.plat_cmd.proofs.generated.big.Goals as goal
 pub returns-clause-done : goal.returns-clause-done
 returns-clause-done g c = λ told.
     ⊎_elim (λ done. done)
-    (λ has. absurd (stopped_silent (command.Big c.args.n) g.K.Sink c.args.sink.now c.sum_nth.new.sink c.sum_nth.result stop.OutOfMemory has told))
+    (λ has. absurd (stopped_silent (command.Big c.args.n) g.K.Sink c.args.sink.now c.sum_nth.new.sink c.sum_nth.result stop.OutOfMemory has
+    told))
     c.sum_nth.ensures
 
 pub returns-clause-complete : goal.returns-clause-complete

@@ -7,7 +7,8 @@ use Rattle.plat_cmd.proofs.generated.print_generated.Goals as goal
 pub returns-clause-done : goal.returns-clause-done
 returns-clause-done g c = λ told.
     ⊎_elim (λ done. done)
-    (λ has. absurd (stopped_silent (command.Gen c.args.n) g.K.Sink c.args.sink.now c.print_nth.new.sink c.print_nth.result stop.OutOfMemory has told))
+    (λ has. absurd (stopped_silent (command.Gen c.args.n) g.K.Sink c.args.sink.now c.print_nth.new.sink c.print_nth.result stop.OutOfMemory
+    has told))
     c.print_nth.ensures
 
 pub returns-clause-complete : goal.returns-clause-complete

@@ -27,8 +27,10 @@ pub summary-written-requires-clause-good : goal.summary-written-requires-clause-
 summary-written-requires-clause-good g c =
     let m = machine c.args.made.finished.cfg in (
       policy_answer m.policy,
-      same_items (λ is es. Good m (policy_answer m.policy) is es) c.as_slice.result.now (history_of grain.Coarse m) c.as_slice-2.result.now (ends_of grain.Coarse m)
-          (c.as_slice.ensures ∙ c.requires.items) (c.as_slice-2.ensures ∙ c.requires.ends) (run_good m (policy_answer m.policy) c.args.made.finished.cfg.limits),
+      same_items (λ is es. Good m (policy_answer m.policy) is es) c.as_slice.result.now (history_of grain.Coarse m) c.as_slice-2.result.now
+          (ends_of grain.Coarse m)
+          (c.as_slice.ensures ∙ c.requires.items) (c.as_slice-2.ensures ∙ c.requires.ends)
+          (run_good m (policy_answer m.policy) c.args.made.finished.cfg.limits),
     )
 
 pub returns : goal.returns
@@ -42,19 +44,23 @@ returns g c =
     let now = c.status_after.result in
     let answer = policy_answer m.policy in
     let written =
-    same_items (λ is es. Adds g.K.Sink old new c.summary-written.result (summary n m is es)) (history_of grain.Coarse m) c.as_slice.result.now (ends_of grain.Coarse m)
-    c.as_slice-2.result.now (sym (c.as_slice.ensures ∙ c.requires.items)) (sym (c.as_slice-2.ensures ∙ c.requires.ends)) c.summary-written.ensures
+    same_items (λ is es. Adds g.K.Sink old new c.summary-written.result (summary n m is es)) (history_of grain.Coarse m)
+    c.as_slice.result.now (ends_of grain.Coarse m)
+    c.as_slice-2.result.now (sym (c.as_slice.ensures ∙ c.requires.items)) (sym (c.as_slice-2.ensures ∙ c.requires.ends))
+    c.summary-written.ensures
     in record {
       history = kept;
       no_threads = refl;
-      coherent = subst (λ (is : List Item). IsCoherentRun m answer is (ends_of grain.Coarse m)) (sym kept) (coarse_run_coherent m answer limits);
+      coherent = subst (λ (is : List Item). IsCoherentRun m answer is (ends_of grain.Coarse m)) (sym kept)
+          (coarse_run_coherent m answer limits);
       frames = subst (λ (is : List Item). AtEachAccess is (FindsFrameWord m)) (sym kept) (run_finds_words m answer limits);
       halted =
           subst (λ (x : Machine). ends_of grain.Coarse x ≡ replicate 8 (halted_in 40008)) (sym c.requires.number)
           (generated_ends n (policy_answer (generated n).policy));
       written =
           subst (λ (is : List Item). IsWritten g.K.Sink old new now (summary n m is (ends_of grain.Coarse m))) (sym kept)
-          (written_by g.K.Sink old new c.summary-written.result (summary n m (history_of grain.Coarse m) (ends_of grain.Coarse m)) status.Done now (λ is. cc)
+          (written_by g.K.Sink old new c.summary-written.result (summary n m (history_of grain.Coarse m) (ends_of grain.Coarse m))
+          status.Done now (λ is. cc)
           c.status_after.ensures written);
       ended = ended_by c.summary-written.result status.Done now c.status_after.ensures;
     }

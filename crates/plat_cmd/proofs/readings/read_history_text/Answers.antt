@@ -11,7 +11,9 @@ returns-in-Err-TooLong-clause-stopped g c =
 
 pub returns-in-Err-Refused-clause-taken : goal.returns-in-Err-Refused-clause-taken
 returns-in-Err-Refused-clause-taken g c =
-    read_short history_text (g.S.Source.left c.args.source.now) (g.S.Source.left c.read_all.new.source) c.read_all.result c.in-Ok.bytes _ c.in-Err-Refused.refused
-    c.in-Ok.is refl (no_long_history c.as_slice.result.now c.in-Err-Refused.field-0 c.in-Err-Refused.refused (rw c.as_slice.ensures c.in-Ok.ensures.short)
+    read_short history_text (g.S.Source.left c.args.source.now) (g.S.Source.left c.read_all.new.source) c.read_all.result c.in-Ok.bytes _
+    c.in-Err-Refused.refused
+    c.in-Ok.is refl (no_long_history c.as_slice.result.now c.in-Err-Refused.field-0 c.in-Err-Refused.refused
+    (rw c.as_slice.ensures c.in-Ok.ensures.short)
     c.in-Err-Refused.field-0-is c.in-Err-Refused.ensures.exact)
     c.read_all.ensures.taken

@@ -21,6 +21,8 @@ returns g c =
     ∙ ap (λ (s : Status). status_after s c.print_items-written.result)
     (c.status_of-complete.ensures
     ∙ (ap (λ (es : List Ended). status_of es c.is_limited.result) c.as_slice-3.ensures ∙ ap (status_of ends) c.is_limited.ensures)) in
-    has_shown c.args.grain output.Trace g.K.Sink m items ends c.args.sink.now c.print_items-written.new.sink c.print_items-written.result c.status_after.result now_is
-    (same_items (λ is es. Adds g.K.Sink c.args.sink.now c.print_items-written.new.sink c.print_items-written.result (output_of output.Trace m is es)) items c.as_slice.result.now ends c.as_slice-2.result.now
+    has_shown c.args.grain output.Trace g.K.Sink m items ends c.args.sink.now c.print_items-written.new.sink c.print_items-written.result
+    c.status_after.result now_is
+    (same_items (λ is es. Adds g.K.Sink c.args.sink.now c.print_items-written.new.sink c.print_items-written.result
+    (output_of output.Trace m is es)) items c.as_slice.result.now ends c.as_slice-2.result.now
     (sym c.as_slice.ensures) (sym c.as_slice-2.ensures) c.print_items-written.ensures.written)

@@ -24,13 +24,16 @@ returns-in-Report g c =
     let m = machine c.in-Ok.cfg in
     let out = c.simulate_under.result in
     of_output c.args.output output.Report c.in-Report.is
-    (λ o. PromisesUnder answer o g.S.Source g.K.Sink c.args.source.now c.read_machine.new.source c.args.sink.now c.simulate_under.new.sink out)
+    (λ o. PromisesUnder answer o g.S.Source g.K.Sink c.args.source.now c.read_machine.new.source c.args.sink.now c.simulate_under.new.sink
+    out)
     (⊎_elim
-    (λ run. did_under answer output.Report g.S.Source g.K.Sink c.args.source.now c.read_machine.new.source c.args.sink.now c.simulate_under.new.sink out m
+    (λ run. did_under answer output.Report g.S.Source g.K.Sink c.args.source.now c.read_machine.new.source c.args.sink.now
+    c.simulate_under.new.sink out m
     (told_as told left read c.in-Ok.cfg c.in-Ok.is c.read_machine.ensures.found c.read_machine.ensures.exact c.read_machine.ensures.all) run
     (only_it machine_text told read machine c.read_machine.ensures.only c.in-Ok.cfg c.in-Ok.is) c.read_machine.ensures.count
     (takes_ok machine_text told left read c.in-Ok.cfg c.in-Ok.is c.read_machine.ensures.taken))
-    (λ has. stopped_under answer output.Report g.S.Source g.K.Sink c.args.source.now c.read_machine.new.source c.args.sink.now c.simulate_under.new.sink out stop.OutOfMemory tt has
+    (λ has. stopped_under answer output.Report g.S.Source g.K.Sink c.args.source.now c.read_machine.new.source c.args.sink.now
+    c.simulate_under.new.sink out stop.OutOfMemory tt has
     (told_all machine_text told (λ it. IsNoRefusal (stop_status stop.OutOfMemory)) (λ it. inr refl)) c.read_machine.ensures.count
     (takes_short machine_text told left ⊥ (stop.OutOfMemory ≡ stop.Refused too_long) (λ f. f) (λ is. cc)
     (takes_ok machine_text told left read c.in-Ok.cfg c.in-Ok.is c.read_machine.ensures.taken))) c.simulate_under.ensures)
@@ -46,11 +49,13 @@ returns-in-Trace g c =
     of_output c.args.output output.Trace c.in-Trace.is
     (λ o. PromisesUnder answer o g.S.Source g.K.Sink c.args.source.now c.read_machine.new.source c.args.sink.now c.trace_under.new.sink out)
     (⊎_elim
-    (λ run. did_under answer output.Trace g.S.Source g.K.Sink c.args.source.now c.read_machine.new.source c.args.sink.now c.trace_under.new.sink out m
+    (λ run. did_under answer output.Trace g.S.Source g.K.Sink c.args.source.now c.read_machine.new.source c.args.sink.now
+    c.trace_under.new.sink out m
     (told_as told left read c.in-Ok.cfg c.in-Ok.is c.read_machine.ensures.found c.read_machine.ensures.exact c.read_machine.ensures.all) run
     (only_it machine_text told read machine c.read_machine.ensures.only c.in-Ok.cfg c.in-Ok.is) c.read_machine.ensures.count
     (takes_ok machine_text told left read c.in-Ok.cfg c.in-Ok.is c.read_machine.ensures.taken))
-    (λ has. stopped_under answer output.Trace g.S.Source g.K.Sink c.args.source.now c.read_machine.new.source c.args.sink.now c.trace_under.new.sink out stop.OutOfMemory tt has
+    (λ has. stopped_under answer output.Trace g.S.Source g.K.Sink c.args.source.now c.read_machine.new.source c.args.sink.now
+    c.trace_under.new.sink out stop.OutOfMemory tt has
     (told_all machine_text told (λ it. IsNoRefusal (stop_status stop.OutOfMemory)) (λ it. inr refl)) c.read_machine.ensures.count
     (takes_short machine_text told left ⊥ (stop.OutOfMemory ≡ stop.Refused too_long) (λ f. f) (λ is. cc)
     (takes_ok machine_text told left read c.in-Ok.cfg c.in-Ok.is c.read_machine.ensures.taken))) c.trace_under.ensures)
@@ -60,9 +65,16 @@ returns-in-Err g c =
     let told = g.S.Source.left c.args.source.now in
     let left = g.S.Source.left c.read_machine.new.source in
     let read = c.read_machine.result in
-    stopped_under (g.P.Policy.answer c.args.policy) c.args.output g.S.Source g.K.Sink c.args.source.now c.read_machine.new.source c.args.sink.now c.args.sink.now c.without_run.result
+    stopped_under (g.P.Policy.answer c.args.policy) c.args.output g.S.Source g.K.Sink c.args.source.now c.read_machine.new.source
+    c.args.sink.now c.args.sink.now c.without_run.result
     c.in-Err.stop
-    (stop_is machine_text told read (g.S.Source.faults c.args.source.now) (g.S.Source.faults c.read_machine.new.source) c.in-Err.stop c.in-Err.is c.read_machine.ensures.stopped)
-    (record { ended = c.without_run.ensures.status ∙ c.stop_status.ensures; history = c.without_run.ensures.kept; no_threads = c.without_run.ensures.ran; sink = refl })
+    (stop_is machine_text told read (g.S.Source.faults c.args.source.now) (g.S.Source.faults c.read_machine.new.source) c.in-Err.stop
+    c.in-Err.is c.read_machine.ensures.stopped)
+    (record {
+      ended = c.without_run.ensures.status ∙ c.stop_status.ensures;
+      history = c.without_run.ensures.kept;
+      no_threads = c.without_run.ensures.ran;
+      sink = refl;
+    })
     (not_refused machine_text told read machine c.read_machine.ensures.only c.in-Err.stop c.in-Err.is) c.read_machine.ensures.count
     (takes_err machine_text told left read c.in-Err.stop c.in-Err.is c.read_machine.ensures.taken)

@@ -20,6 +20,7 @@ returns-in-Ok g c =
     let m = machine c.args.cfg in
     let finished = c.in-Ok.made.finished in
     let out = c.reported.result in
-    inl (has_run grain.Coarse output.Report g.K.Sink m (machine finished.cfg) (g.P.Policy.answer c.args.policy) finished.items.items finished.ends.items
+    inl (has_run grain.Coarse output.Report g.K.Sink m (machine finished.cfg) (g.P.Policy.answer c.args.policy) finished.items.items
+    finished.ends.items
     c.args.sink.now c.reported.new.sink out.status out.kept.items out.ran
     c.in-Ok.ensures.machine c.args.cfg.limits c.in-Ok.ensures.items c.in-Ok.ensures.ends c.reported.ensures)

@@ -10,6 +10,7 @@ returns-in-Ok g c =
     let m = machine c.args.cfg in
     let finished = c.in-Ok.finished in
     let out = c.traced.result in
-    inl (has_run grain.Coarse output.Trace g.K.Sink m (machine finished.cfg) (g.P.Policy.answer c.args.policy) finished.items.items finished.ends.items
+    inl (has_run grain.Coarse output.Trace g.K.Sink m (machine finished.cfg) (g.P.Policy.answer c.args.policy) finished.items.items
+    finished.ends.items
     c.args.sink.now c.traced.new.sink out.status out.kept.items out.ran
     c.in-Ok.ensures.machine c.args.cfg.limits c.in-Ok.ensures.items c.in-Ok.ensures.ends c.traced.ensures)

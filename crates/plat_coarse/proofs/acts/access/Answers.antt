@@ -8,7 +8,8 @@ use Rattle.plat_coarse.proofs.ReachLemmas.{LeadsTo, LeadsTo-found}
 use Rattle.plat_coarse.proofs.acts.access.Given as given
 use Rattle.plat_coarse.proofs.acts.access.Goals as goal
 
-leads : (g : given.Over) (c : goal.After-reach-1 g) → LeadsTo c.args.chronicle.now.machine c.in-Some.entry (reach_seen c.reach_of-reach.result)
+leads : (g : given.Over) (c : goal.After-reach-1 g) →
+    LeadsTo c.args.chronicle.now.machine c.in-Some.entry (reach_seen c.reach_of-reach.result)
 leads g c =
     let m = c.args.chronicle.now.machine in
     let is = c.config-cfg.ensures in

@@ -15,8 +15,12 @@ add_access-requires-clause-legal c =
     let items = c.args.chronicle.now.items in
     let r = reach_seen c.args.reach.now in
     let sent = interrupts m (state_of c.args.chronicle.now c.args.ends.now) c.args.q c.args.reach.now.page c.args.decision.now.removed in
-    let quiet = interrupts-applied m (state_of c.args.chronicle.now c.args.ends.now) c.args.q c.args.reach.now.page c.args.decision.now.removed in
-    let value = flat_value-change m (items ++ sent) c.change_of-change.result r.page r.word ∙ flat_value-applied m items sent r.page r.word quiet in
-    let writes = flat_writes-change (items ++ sent) c.change_of-change.result r.page r.word ∙ flat_writes-applied items sent r.page r.word quiet in
+    let quiet = interrupts-applied m (state_of c.args.chronicle.now c.args.ends.now) c.args.q c.args.reach.now.page
+    c.args.decision.now.removed in
+    let value = flat_value-change m (items ++ sent) c.change_of-change.result r.page r.word
+    ∙ flat_value-applied m items sent r.page r.word quiet in
+    let writes = flat_writes-change (items ++ sent) c.change_of-change.result r.page r.word
+    ∙ flat_writes-applied items sent r.page r.word quiet in
     rw (c.add_change.ensures.machine, c.interrupt.ensures.machine, c.add_change.ensures.items, c.interrupt.ensures.items)
-    (legal-still m items ((items ++ sent) ++ item.Change c.change_of-change.result ∷ []) c.args.q r c.args.decision.now.frame c.seq.result c.access_of-access.result c.access_of-access.ensures c.requires.page c.requires.word value writes)
+    (legal-still m items ((items ++ sent) ++ item.Change c.change_of-change.result ∷ []) c.args.q r c.args.decision.now.frame c.seq.result
+    c.access_of-access.result c.access_of-access.ensures c.requires.page c.requires.word value writes)

@@ -14,8 +14,10 @@ add_applied-requires c =
     let is = sym c.is_target.ensures ∙ c.if-is_target.true in
     let same = c.loop-r.invariant.machine in
     let within = c.loop-r-test.true in
-    let room : HasRoom before (sent_below before.machine before.items args.ends.now args.initiator args.removed args.entry before.machine.nodes) = c.requires.room in
-    let here = HasRoom-target before now args.ends.now args.initiator args.removed args.entry c.loop-r.r c.loop-r.invariant is (grind arith) room in
+    let room : HasRoom before (sent_below before.machine before.items args.ends.now args.initiator args.removed args.entry
+    before.machine.nodes) = c.requires.room in
+    let here = HasRoom-target before now args.ends.now args.initiator args.removed args.entry c.loop-r.r c.loop-r.invariant is (grind arith)
+    room in
     record { processor = grind arith; entry = grind (arith, c.requires.entry); room = rw c.message_of_removed-message.ensures here }
 
 pub loop-r-preserved : goal.loop-r-preserved
@@ -27,9 +29,12 @@ loop-r-preserved c =
       | then-is_target w ↦
           let is = sym c.is_target.ensures ∙ w.if-is_target.true in
           let message = c.message_of_removed-message.ensures in
-          let sent : HasAdded now c.if-is_target.chronicle (interrupt_of args.removed args.entry c.loop-r.r ∷ []) = rw w.chronicle-is (rw (← message) w.add_applied.ensures) in
-          HasAdded-target before now args.ends.now args.initiator args.removed args.entry c.loop-r.r c.loop-r.invariant c.if-is_target.chronicle is sent
+          let sent : HasAdded now c.if-is_target.chronicle (interrupt_of args.removed args.entry c.loop-r.r ∷ []) =
+          rw w.chronicle-is (rw (← message) w.add_applied.ensures) in
+          HasAdded-target before now args.ends.now args.initiator args.removed args.entry c.loop-r.r c.loop-r.invariant
+          c.if-is_target.chronicle is sent
       | else-is_target w ↦
           let is = sym c.is_target.ensures ∙ w.if-is_target.false in
-          rw w.chronicle-is (HasAdded-other before now args.ends.now args.initiator args.removed args.entry c.loop-r.r c.loop-r.invariant is)
+          rw w.chronicle-is (HasAdded-other before now args.ends.now args.initiator args.removed args.entry c.loop-r.r c.loop-r.invariant
+          is)
     ]

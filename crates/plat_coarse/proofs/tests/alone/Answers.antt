@@ -1,19 +1,10 @@
-use Rattle.std.proofs.Common.{◌≡◌, [], ◌∷◌, None}
+use Rattle.std.proofs.Common.{◌≡◌, [], ◌∷◌, None, refl}
 use Rattle.plat_base.specs.Machine.{programs_seen}
-use Rattle.plat_coarse.specs.Tried.{guest}
-use Rattle.plat_coarse.proofs.TriedLemmas.{one_guest}
+use Rattle.plat_coarse.specs.Tried.{labelled}
 use Rattle.plat_coarse.proofs.tests.alone.Goals as goal
 
-pub config-requires-clause-limits : goal.config-requires-clause-limits
-config-requires-clause-limits c =
-    let guests : programs_seen c.push.new.self.items ≡ guest c.args.code.now None ∷ [] =
-    one_guest c.in_ok-guests.guests.items c.push.new.self.items c.in_ok-guest.field-0 (guest c.args.code.now None) c.in_ok-guests.ensures.empty c.push.ensures.items
-    c.in_ok-guest.ensures in
-    rw guests c.requires.limits
-
-pub config-requires-clause-short : goal.config-requires-clause-short
-config-requires-clause-short c =
-    let guests : programs_seen c.push.new.self.items ≡ guest c.args.code.now None ∷ [] =
-    one_guest c.in_ok-guests.guests.items c.push.new.self.items c.in_ok-guest.field-0 (guest c.args.code.now None) c.in_ok-guests.ensures.empty c.push.ensures.items
-    c.in_ok-guest.ensures in
-    rw guests c.requires.short
+pub config-requires : goal.config-requires
+config-requires c =
+    let guests : programs_seen c.in_ok-guests.guests.items ≡ labelled c.args.code.now None ∷ [] =
+    rw (c.in_ok-guests.ensures, c.in_ok-labelled.ensures) refl in
+    record { limits = rw guests c.requires.limits; short = rw guests c.requires.short }

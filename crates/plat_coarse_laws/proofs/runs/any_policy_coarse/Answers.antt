@@ -15,11 +15,13 @@ returns-clause-frames g c = run_finds_words (machine c.args.cfg.now) (g.P.Policy
 
 -- src/runs.rt:18:1
 pub returns-clause-between : goal.returns-clause-between
-returns-clause-between g c = λ turns. scheduled_coherent (machine c.args.cfg.now) (g.P.Policy.answer c.args.policy.now) turns c.args.cfg.now.limits
+returns-clause-between g c = λ turns. scheduled_coherent (machine c.args.cfg.now) (g.P.Policy.answer c.args.policy.now) turns
+    c.args.cfg.now.limits
 
 -- src/runs.rt:18:1
 pub returns-clause-over : goal.returns-clause-over
-returns-clause-over g c = λ q inside. run_not_cut (machine c.args.cfg.now) (g.P.Policy.answer c.args.policy.now) q c.args.cfg.now.limits inside
+returns-clause-over g c = λ q inside. run_not_cut (machine c.args.cfg.now) (g.P.Policy.answer c.args.policy.now) q c.args.cfg.now.limits
+    inside
 
 -- src/runs.rt:18:1
 pub returns-clause-bound : goal.returns-clause-bound

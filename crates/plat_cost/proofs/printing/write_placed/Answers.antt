@@ -1,4 +1,9 @@
 use Rattle.plat_cost.proofs.printing.write_placed.Goals as goal
 
 pub returns : goal.returns
-returns g c = rw (c.as_bytes.ensures.value, c.format.ensures.text, c.as_bytes-2.ensures.value, c.format-2.ensures.text) at c.write_line.ensures
+returns g c = rw (
+  c.as_bytes.ensures.value,
+  c.format.ensures.text,
+  c.as_bytes-2.ensures.value,
+  c.format-2.ensures.text,
+) at c.write_line.ensures

@@ -28,10 +28,8 @@ seen distances entries inits guests d e i g = simp (d, e, i, g)
 
 pub invariant_of-result : goal.invariant_of-result
 invariant_of-result c =
-    let guests : programs_seen c.push-3.new.self.items ≡ three_nodes.guests =
-    simp (c.push-3.ensures.items, c.push-2.ensures.items, c.push.ensures.items, c.in_ok-guests.ensures.empty) (cc) in
-    let is = seen c.new.result c.in_ok-entries.entries c.new-2.result c.push-3.new.self c.new.ensures
-    c.in_ok-entries.ensures c.new-2.ensures guests in
+    let is = seen c.new.result c.in_ok-entries.entries c.new-2.result c.in_ok-guests.guests c.new.ensures
+    c.in_ok-entries.ensures c.new-2.ensures c.in_ok-guests.ensures in
     record {
       limits = subst (λ (m : Machine). IsTrue (is_machine m)) (sym is) limits;
       short = subst (λ (m : Machine). IsTrue (is_short m)) (sym is) short;

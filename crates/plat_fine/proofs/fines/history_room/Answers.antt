@@ -1,7 +1,6 @@
 use Rattle.std.proofs.Common.{arith}
 use Rattle.plat_base.specs.Seen.{machine}
-use Rattle.plat_base.proofs.RoomLemmas.{thaws_most}
-use Rattle.plat_fine.proofs.RoomLemmas.{processors-fit}
+use Rattle.plat_base.proofs.RoomLemmas.{thaws_most, processors-fit}
 use Rattle.plat_fine.proofs.fines.history_room.Goals as goal
 
 pub overflow_mul-result-in-Platinum : goal.overflow_mul-result-in-Platinum

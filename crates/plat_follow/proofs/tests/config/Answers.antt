@@ -1,13 +1,13 @@
 use Rattle.std.proofs.Common.{◌≡◌, [], ◌∷◌, refl}
 use Rattle.plat_base.specs.Machine.{programs_seen}
-use Rattle.plat_follow.specs.Tried.{guest}
+use Rattle.plat_follow.specs.Tried.{labelled}
 use Rattle.plat_follow.proofs.tests.config.Goals as goal
 
-pub invariant_of-result : goal.invariant_of-result
-invariant_of-result c =
-    let guests : programs_seen c.push-2.new.self.items ≡ guest c.args.first.now c.args.a ∷ guest c.args.second.now c.args.b ∷ [] =
-    rw (c.push-2.ensures.items, c.push.ensures.items, c.in_ok-guests.ensures.empty, c.in_ok-guest.ensures, c.in_ok-guest-2.ensures) refl
-    in record {
-      limits = rw (guests, c.new.ensures, c.new-2.ensures, c.in_ok-entries.ensures) c.requires.limits;
-      short = rw (guests, c.new.ensures, c.new-2.ensures, c.in_ok-entries.ensures) c.requires.short;
+pub small-requires : goal.small-requires
+small-requires c =
+    let guests : programs_seen c.in_ok-guests.guests.items ≡ labelled c.args.first.now c.args.a ∷ labelled c.args.second.now c.args.b ∷ [] =
+    rw (c.in_ok-guests.ensures, c.in_ok-first.ensures, c.in_ok-second.ensures) refl in
+    record {
+      limits = rw (guests, c.entry.ensures, c.entry-2.ensures) c.requires.limits;
+      short = rw (guests, c.entry.ensures, c.entry-2.ensures) c.requires.short;
     }

@@ -16,7 +16,8 @@ returns-in_err-write_next_words g c =
     rw ended_line
     (adds_then g.K.Sink _ _ _ _ _ _ _ c.in_ok-write_word.ensures
     (adds_then g.K.Sink _ _ _ _ _ _ _ c.in_ok-write_next_size.ensures
-    (adds_begun g.K.Sink _ _ _ _ _ _ c.from_residual-in_err-write_next_words.ensures.0 (rw c.end_word.ensures at c.in_err-write_next_words.ensures))))
+    (adds_begun g.K.Sink _ _ _ _ _ _ c.from_residual-in_err-write_next_words.ensures.0
+    (rw c.end_word.ensures at c.in_err-write_next_words.ensures))))
 
 pub returns : goal.returns
 returns g c =

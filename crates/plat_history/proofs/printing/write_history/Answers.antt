@@ -9,7 +9,8 @@ pub returns-in_err-print_machine : goal.returns-in_err-print_machine
 returns-in_err-print_machine g c =
     rw history_text-lines
     (adds_more g.K.Sink _ _ _ _ _ _ _ c.in_ok-write_line.ensures
-    (adds_part g.K.Sink _ _ _ _ _ _ c.from_residual-in_err-print_machine.ensures.0 (rw canon_text-lines at c.in_err-print_machine.ensures.written)))
+    (adds_part g.K.Sink _ _ _ _ _ _ c.from_residual-in_err-print_machine.ensures.0
+    (rw canon_text-lines at c.in_err-print_machine.ensures.written)))
 
 pub returns : goal.returns
 returns g c =

@@ -11,4 +11,5 @@ returns-in_err-row-clause-reads c =
 pub returns-in_err-item-clause-reads : goal.returns-in_err-item-clause-reads
 returns-in_err-item-clause-reads c =
     let p = err_from_is_err_and c.from_residual-in_err-item.result c.from_residual-in_err-item.ensures.1 in
-    rw (p.1, p.2) (sym c.loop-item.invariant.reads ∙ items-wrong _ _ _ _ _ c.loop-item-test.true _ _ _ c.in_ok-row.ensures c.in_err-item.ensures)
+    rw (p.1, p.2) (sym c.loop-item.invariant.reads
+    ∙ items-wrong _ _ _ _ _ c.loop-item-test.true _ _ _ c.in_ok-row.ensures c.in_err-item.ensures)

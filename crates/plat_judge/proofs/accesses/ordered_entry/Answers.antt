@@ -8,7 +8,8 @@ returns-in-Some-clause-order c = λ items follow.
     let m = machine c.args.cfg.now in
     let a = c.args.access.now in
     let inside : a.actor < m.nodes = omega arith in
-    c.entry_made.ensures.made ∙ ordered-access m items a _ inside (sym c.has_frame.ensures ∙ c.if-not-has_frame.false) (c.in-Some.ensures.next m items follow)
+    c.entry_made.ensures.made ∙ ordered-access m items a _ inside (sym c.has_frame.ensures ∙ c.if-not-has_frame.false)
+    (c.in-Some.ensures.next m items follow)
 
 pub returns-in-Some-clause-entry : goal.returns-in-Some-clause-entry
 returns-in-Some-clause-entry c =

@@ -8,7 +8,8 @@ returns-in-Some g c = λ items same.
     let m = machine c.args.cfg.now in
     let change = c.args.change.now in
     let decided = rw c.got_named-got.ensures at (sym c.decision_of.ensures ∙ c.in-Some.is) in
-    c.is_granted_so.ensures ∙ fault-decided m (g.P.Policy.answer c.args.policy.now) items change c.args.grant c.args.last c.in-Some.decision same decided
+    c.is_granted_so.ensures ∙ fault-decided m (g.P.Policy.answer c.args.policy.now) items change c.args.grant c.args.last c.in-Some.decision
+    same decided
 
 pub returns-in-None : goal.returns-in-None
 returns-in-None g c = λ items same.

@@ -36,7 +36,8 @@ change-requires-clause-count g c =
     let page = c.args.change.now.page in
     let chained = sym (c.is_chained.ensures c.requires.0 c.requires.1.shows c.requires.1.follow) ∙ c.if-not-is_chained.false in
     let inside = chained-page (machine c.args.cfg.now) (g.P.Policy.answer c.args.policy.now) c.requires.0 c.args.change.now chained in
-    let at : seq_at c.args.present.now page ≡ seq_of c.requires.0 page = ap (λ (p : PageState). p.seq) (c.requires.1.shows.pages.at page inside) in
+    let at : seq_at c.args.present.now page ≡ seq_of c.requires.0 page =
+    ap (λ (p : PageState). p.seq) (c.requires.1.shows.pages.at page inside) in
     omega (arith, at, seq_of-at_most c.requires.0 page, c.requires.2)
 
 pub returns-clause-taken : goal.returns-clause-taken

@@ -13,7 +13,8 @@ applied-requires c =
     let m = machine c.args.cfg.now in
     let x = c.args.applied in
     let fits = Shows-fits m c.requires.0 c.args.present.now c.requires.1 in
-    let answered : is_answered m c.requires.0 x ≡ true = sym (c.is_answered.ensures c.requires.0 c.requires.1) ∙ c.if-not-is_answered.false in
+    let answered : is_answered m c.requires.0 x ≡ true = sym (c.is_answered.ensures c.requires.0 c.requires.1)
+    ∙ c.if-not-is_answered.false in
     let actor = answered-actor m c.requires.0 x answered in
     let entry = answered-entry m c.requires.0 x answered in
     record { processor = omega (arith, fits.processors, actor); entry = omega (arith, fits.entries x.actor actor, entry) }

@@ -19,7 +19,8 @@ pub switch-requires : goal.switch-requires
 switch-requires c =
     let m = machine c.args.cfg.now in
     let fits = Shows-fits m c.requires.0 c.args.present.now c.requires.1.shows in
-    let ordered : is_ordered_switch m c.requires.0 c.args.switch ≡ true = sym (c.is_ordered_switch.ensures c.requires.0 c.requires.1.follow) ∙ c.if-not-is_ordered_switch.false in
+    let ordered : is_ordered_switch m c.requires.0 c.args.switch ≡ true = sym (c.is_ordered_switch.ensures c.requires.0 c.requires.1.follow)
+    ∙ c.if-not-is_ordered_switch.false in
     let actor = ordered-actor m c.requires.0 c.args.switch ordered in
     omega (arith, fits.active, guests-count m c.args.cfg.now.limits, actor)
 

@@ -5,4 +5,5 @@ use Rattle.plat_machine.proofs.guests.code.Given as goal
 
 abbrev pub invariant-loop-read : goal.invariant-loop-read
 invariant-loop-read l =
-    code_from l.body.labels.items l.list.items (drafts (drop l.read-index l.body.drafts.items)) ≡ code_from l.body.labels.items [] (drafts l.body.drafts.items)
+    code_from l.body.labels.items l.list.items (drafts (drop l.read-index l.body.drafts.items))
+    ≡ code_from l.body.labels.items [] (drafts l.body.drafts.items)

@@ -1,7 +1,8 @@
 use Rattle.std.proofs.Common.{length, refl, sym, ap, ◌∙◌, arith}
 use Rattle.plat_base.specs.Canon.{instr_words, label_name}
 use Rattle.plat_base.specs.declared.guests.Label.{Label}
-use Rattle.plat_machine.proofs.PrintLabels.{IsNext, IsNext-bounds, last_at-rises, last_at-more, lines_to-more, with_labels-here, with_labels-end}
+use Rattle.plat_machine.proofs.PrintLabels.{IsNext, IsNext-bounds, last_at-rises, last_at-more, lines_to-more, with_labels-here}
+use Rattle.plat_machine.proofs.PrintLabels.{with_labels-end}
 use Rattle.plat_machine.proofs.PrintLines.{adds_none, adds_more, adds_part}
 use Rattle.plat_machine.proofs.printing_guests.write_labelled.Goals as goal
 
@@ -45,7 +46,8 @@ loop-label-preserved g c =
     record { rising = c.requires.rising; within = omega arith; place = c.loop-label.invariant.at; item = c.label-item.is }
     in let more = lines_to-more (instr_words (label_name c.args.labels.now)) c.args.code.now next
     in record {
-      at = ap (λ (l : Label). l.at) c.label-item.is ∙ sym (last_at-more c.args.labels.now 0 c.loop-label.label-index c.label-item.result (omega arith));
+      at = ap (λ (l : Label). l.at) c.label-item.is
+          ∙ sym (last_at-more c.args.labels.now 0 c.loop-label.label-index c.label-item.result (omega arith));
       written =
           rw more
           (adds_more g.K.Sink _ _ _ _ _ _ _ c.loop-label.invariant.written
@@ -59,5 +61,6 @@ write_stretch-requires-2-clause-order g c =
 
 pub returns : goal.returns
 returns g c =
-    let whole = with_labels-end (instr_words (label_name c.args.labels.now)) c.args.code.now c.args.labels.now c.loop-label.label-index c.loop-label.at c.requires.rising (omega arith) c.loop-label.invariant.at
+    let whole = with_labels-end (instr_words (label_name c.args.labels.now)) c.args.code.now c.args.labels.now c.loop-label.label-index
+    c.loop-label.at c.requires.rising (omega arith) c.loop-label.invariant.at
     in rw whole (adds_more g.K.Sink _ _ _ _ _ _ _ c.loop-label.invariant.written c.write_stretch-2.ensures)

@@ -12,9 +12,9 @@ is_short-shootdown = refl
 
 pub invariant_of-result : goal.invariant_of-result
 invariant_of-result c =
-    let guests : programs_seen c.push-2.new.self.items ≡ program writer ∷ program reader ∷ [] =
-    rw (c.push-2.ensures.items, c.push.ensures.items, c.in_ok-guests.ensures.empty, c.in_ok-writing.ensures, c.in_ok-reading.ensures) refl
-    in record {
+    let guests : programs_seen c.in_ok-guests.guests.items ≡ program writer ∷ program reader ∷ [] =
+    rw (c.in_ok-guests.ensures, c.in_ok-writer.ensures, c.in_ok-reader.ensures) refl in
+    record {
       limits = rw (guests, c.new.ensures, c.new-2.ensures, c.in_ok-entries.ensures, c.in_ok-schedule.ensures) refl;
       short = rw (guests, c.new.ensures, c.new-2.ensures, c.in_ok-entries.ensures, c.in_ok-schedule.ensures) is_short-shootdown;
     }

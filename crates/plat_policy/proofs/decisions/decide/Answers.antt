@@ -18,10 +18,14 @@ row_does-requires-2-clause-fits g c =
     ≡ row_of c.args.cause dir.state (is_some (copy_on c.args.node dir.copies)) (moves_page (answer dir c.args.last c.args.now) c.args.got) =
     cc (fault-row c.args.cause answer dir c.args.last c.args.now c.args.node c.args.got faults) in
     rw row
-    (fault-fits (machine c.args.cfg.now) c.args.cause answer dir c.args.last c.args.now c.args.node c.args.got faults (c.requires.node faults) c.requires.fits)
+    (fault-fits (machine c.args.cfg.now) c.args.cause answer dir c.args.last c.args.now c.args.node c.args.got faults
+    (c.requires.node faults) c.requires.fits)
 
 pub returns : goal.returns
 returns g c =
     let faults : c.args.cause ≡ Thaw → ⊥ = λ e. grind arith in
     let answer = g.P.Policy.answer c.args.policy.now in
-    cc (fault-row c.args.cause answer c.args.dir.now c.args.last c.args.now c.args.node c.args.got faults, fault-frozen c.args.cause answer c.args.dir.now c.args.last c.args.now c.args.node faults)
+    cc (
+      fault-row c.args.cause answer c.args.dir.now c.args.last c.args.now c.args.node c.args.got faults,
+      fault-frozen c.args.cause answer c.args.dir.now c.args.last c.args.now c.args.node faults,
+    )

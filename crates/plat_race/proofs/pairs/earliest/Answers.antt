@@ -3,7 +3,8 @@ use Rattle.std.specs.Option.{option_map}
 use Rattle.std.proofs.lemmas.List.{get_or-take, get_or_default}
 use Rattle.plat_base.specs.declared.items.Item.{Item}
 use Rattle.plat_race.specs.Races.{item_at, no_item, is_race, pair}
-use Rattle.plat_race.proofs.Racing.{find_numbers-first, find_numbers-all}
+use Rattle.plat_race.proofs.Racing.{find_numbers-first}
+use Rattle.plat_base.proofs.ListLemmas.{find-numbers_none}
 use Rattle.plat_race.proofs.pairs.earliest.Goals as goal
 
 -- the item that was read, among all items
@@ -48,5 +49,5 @@ pub returns : goal.returns
 returns c =
     let items = c.args.items.now
     in let all = all_places items c.args.place c.loop-first.first c.requires.place c.loop-first-test.false
-    in sym (ap (option_map (λ i. pair i c.args.place)) (find_numbers-all (λ i. is_race items i c.args.place) c.args.place
+    in sym (ap (option_map (λ i. pair i c.args.place)) (find-numbers_none (λ i. is_race items i c.args.place) c.args.place
     (λ i l. c.loop-first.invariant i (omega arith))))

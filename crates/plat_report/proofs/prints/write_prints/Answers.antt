@@ -4,14 +4,15 @@ use Rattle.plat_base.specs.Machine.{Program}
 use Rattle.plat_base.specs.Done.{values_of}
 use Rattle.plat_base.specs.Pages.{program_of}
 use Rattle.plat_base.specs.Seen.{machine}
-use Rattle.plat_guest.proofs.LimitsLemmas.{guests_of, program_at}
+use Rattle.plat_base.proofs.LimitLemmas.{guests_count}
+use Rattle.plat_guest.proofs.LimitsLemmas.{program_at}
 use Rattle.plat_report.specs.Silent.{is_print}
 use Rattle.plat_report.proofs.SilentLemmas.{prints-silent}
 use Rattle.plat_report.proofs.WritingLemmas.{adds_none}
 use Rattle.plat_report.proofs.prints.write_prints.Goals as goal
 
 pub bounds-as_slice-q : goal.bounds-as_slice-q
-bounds-as_slice-q g c = grind (arith, guests_of c.args.cfg.now)
+bounds-as_slice-q g c = grind (arith, guests_count c.args.cfg.now)
 
 pub returns-then-not-has_print : goal.returns-then-not-has_print
 returns-then-not-has_print g c =

@@ -6,7 +6,8 @@ use Rattle.plat_report.proofs.prints.write_run.Goals as goal
 use Rattle.plat_report.proofs.prints.write_run.Goals.{in-Quiet, in-Prints+in_ok-write_print-in-Prints}
 
 pub loop-made-init : goal.loop-made-init
-loop-made-init g c = printed_none g.K.Sink (machine c.args.cfg.now) c.args.q c.args.run c.args.turns c.args.sink.now (c.args.turns - 0) (omega arith)
+loop-made-init g c = printed_none g.K.Sink (machine c.args.cfg.now) c.args.q c.args.run c.args.turns c.args.sink.now (c.args.turns - 0)
+    (omega arith)
 
 pub returns-in-Stops : goal.returns-in-Stops
 returns-in-Stops g c =

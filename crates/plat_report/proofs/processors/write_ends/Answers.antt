@@ -12,7 +12,8 @@ returns-in_err-write_processor g c =
     let p = err_from_is_err_and c.from_residual.result c.from_residual.ensures.1
     in rw p.1
     (listed_failed g.K.Sink (λ q. processor_line c.args.ends.now q ∷ [])
-    c.args.nodes c.loop-q.q c.args.sink.now c.loop-q.sink c.write_processor.new.sink _ p.0 c.loop-q-test.true c.loop-q.invariant c.in_err-write_processor.ensures)
+    c.args.nodes c.loop-q.q c.args.sink.now c.loop-q.sink c.write_processor.new.sink _ p.0 c.loop-q-test.true c.loop-q.invariant
+    c.in_err-write_processor.ensures)
 
 pub loop-q-preserved : goal.loop-q-preserved
 loop-q-preserved g c =

@@ -8,4 +8,5 @@ use Rattle.plat_report.proofs.processors.write_ends.Given as goal
 
 -- the lines of the processors before `q` were added
 abbrev pub invariant-loop-q : goal.invariant-loop-q
-invariant-loop-q g l = AddsLines {E = WriteFault} g.K.Sink l.fn.sink l.sink (Ok (tt {0})) (flat_map (λ q. processor_line l.ends q ∷ []) (numbers l.q))
+invariant-loop-q g l = AddsLines {E = WriteFault} g.K.Sink l.fn.sink l.sink (Ok (tt {0}))
+    (flat_map (λ q. processor_line l.ends q ∷ []) (numbers l.q))

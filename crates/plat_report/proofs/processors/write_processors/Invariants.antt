@@ -9,4 +9,5 @@ use Rattle.plat_report.proofs.processors.write_processors.Given as goal
 
 -- the lines of the processors before `q` were added
 abbrev pub invariant-loop-q : goal.invariant-loop-q
-invariant-loop-q g l = AddsLines {E = WriteFault} g.K.Sink l.fn.sink l.sink (Ok (tt {0})) (flat_map (processor_lines (machine l.cfg) l.items l.ends) (numbers l.q))
+invariant-loop-q g l = AddsLines {E = WriteFault} g.K.Sink l.fn.sink l.sink (Ok (tt {0}))
+    (flat_map (processor_lines (machine l.cfg) l.items l.ends) (numbers l.q))

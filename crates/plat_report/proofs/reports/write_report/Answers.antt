@@ -24,7 +24,8 @@ write_sums-requires-clause-legal g c =
 pub returns : goal.returns
 returns g c =
     let m = machine c.args.cfg.now
-    in adds_more g.K.Sink c.args.sink.now c.write_line.new.sink c.write_sums.new.sink c.write_sums.result (heading ∷ []) _ c.in_ok-write_line.ensures
+    in adds_more g.K.Sink c.args.sink.now c.write_line.new.sink c.write_sums.new.sink c.write_sums.result (heading ∷ []) _
+    c.in_ok-write_line.ensures
     (adds_more g.K.Sink c.write_line.new.sink c.write_processors.new.sink c.write_sums.new.sink c.write_sums.result
     (flat_map (processor_lines m c.args.items.now c.args.ends.now) (numbers m.nodes)) (sum_lines m c.args.items.now)
     c.in_ok-write_processors.ensures c.write_sums.ensures)

@@ -27,7 +27,8 @@ returns-in_err-write_counts g c = λ items shows count.
     let flat = rw (lines_of_flat m items c.args.sums.now.flat shows.flat) at c.in_ok-write_words.ensures in
     let counts = rw (lines_of_counts m items c.args.sums.now.actors c.args.cfg.now.limits shows.actors) at c.in_err-write_counts.ensures in
     rw p.1
-    (adds_more g.K.Sink c.args.sink.now c.write_words.new.sink c.write_counts.new.sink (Err p.0) (flat_map (page_lines m items) (numbers m.pages)) _ flat
+    (adds_more g.K.Sink c.args.sink.now c.write_words.new.sink c.write_counts.new.sink (Err p.0)
+    (flat_map (page_lines m items) (numbers m.pages)) _ flat
     (adds_part g.K.Sink c.write_words.new.sink c.write_counts.new.sink _ p.0 (flat_map (count_lines m items) (numbers m.nodes)) _ counts))
 
 pub returns : goal.returns

@@ -1,11 +1,12 @@
 use Rattle.std.proofs.Common.{refl}
 use Rattle.plat_base.specs.Seen.{machine}
 use Rattle.plat_base.specs.Verdicts.{policy_answer}
-use Rattle.plat_report.proofs.TriedLemmas.{shootdown-good}
+use Rattle.plat_report.proofs.TriedLemmas.{sharing-good}
 use Rattle.plat_report.proofs.tests.sums_up_a_shootdown.Goals as goal
 
 pub summary-written-requires-clause-good : goal.summary-written-requires-clause-good
 summary-written-requires-clause-good g c = (
   policy_answer (machine c.in_ok-cfg.cfg).policy,
-  shootdown-good (machine c.in_ok-cfg.cfg) c.shootdown_items.result _ c.in_ok-cfg.ensures c.shootdown_items.ensures (rw (c.halted.ensures, c.halted-2.ensures) refl),
+  sharing-good (machine c.in_ok-cfg.cfg) c.history.result _ c.in_ok-cfg.ensures c.history.ensures
+      (rw (c.halted.ensures, c.halted-2.ensures) refl),
 )

@@ -13,11 +13,15 @@ pub returns-in_err-write_word_of : goal.returns-in_err-write_word_of
 returns-in_err-write_word_of g c =
     let p = err_from_is_err_and c.from_residual.result c.from_residual.ensures.1
     in rw p.1
-    (listed_failed g.K.Sink (λ word. word_lines_of c.args.page word (slice_index c.args.flat.now.values (place c.args.flat.now.words c.args.page word)))
-    c.args.flat.now.words c.loop-word.word c.args.sink.now c.loop-word.sink c.write_word_of.new.sink _ p.0 (omega arith) c.loop-word.invariant
+    (listed_failed g.K.Sink (λ word.
+    word_lines_of c.args.page word (slice_index c.args.flat.now.values (place c.args.flat.now.words c.args.page word)))
+    c.args.flat.now.words c.loop-word.word c.args.sink.now c.loop-word.sink c.write_word_of.new.sink _ p.0 (omega arith)
+    c.loop-word.invariant
     (rw c.value.ensures at c.in_err-write_word_of.ensures))
 
 pub loop-word-preserved : goal.loop-word-preserved
 loop-word-preserved g c =
-    listed_more g.K.Sink (λ word. word_lines_of c.args.page word (slice_index c.args.flat.now.values (place c.args.flat.now.words c.args.page word)))
-    c.loop-word.word c.args.sink.now c.loop-word.sink c.write_word_of.new.sink c.loop-word.invariant (rw c.value.ensures at c.in_ok-write_word_of.ensures)
+    listed_more g.K.Sink (λ word. word_lines_of c.args.page word
+    (slice_index c.args.flat.now.values (place c.args.flat.now.words c.args.page word)))
+    c.loop-word.word c.args.sink.now c.loop-word.sink c.write_word_of.new.sink c.loop-word.invariant
+    (rw c.value.ensures at c.in_ok-write_word_of.ensures)

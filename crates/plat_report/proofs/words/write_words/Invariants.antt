@@ -8,4 +8,5 @@ use Rattle.plat_report.proofs.words.write_words.Given as goal
 
 -- the lines of the pages before `page` were added
 abbrev pub invariant-loop-page : goal.invariant-loop-page
-invariant-loop-page g l = AddsLines {E = WriteFault} g.K.Sink l.fn.sink l.sink (Ok (tt {0})) (flat_map (flat_page_lines l.flat) (numbers l.page))
+invariant-loop-page g l = AddsLines {E = WriteFault} g.K.Sink l.fn.sink l.sink (Ok (tt {0}))
+    (flat_map (flat_page_lines l.flat) (numbers l.page))

@@ -12,5 +12,6 @@ nonzero_rem-word c = omega (arith, some_actor c.args.live (omega arith) c.requir
 
 pub returns-clause-chosen : goal.returns-clause-chosen
 returns-clause-chosen c =
-    let word : c.next_word-word.result ≡ random_word c.args.words.now.state = first_same _ _ c.next_word-word.ensures ∙ word_is c.args.words.now.state c.requires.state in
+    let word : c.next_word-word.result ≡ random_word c.args.words.now.state = first_same _ _ c.next_word-word.ensures
+    ∙ word_is c.args.words.now.state c.requires.state in
     rw (← word, ← c.count.ensures) c.nth.ensures

@@ -5,14 +5,11 @@ use Rattle.std.specs.Int.{bit_at, w32}
 use Rattle.std.proofs.lemmas.Bool.Decides.{nat_tests}
 use Rattle.std.proofs.lemmas.Nat.Bits.{bit_at_not, bit_at-lt}
 use Rattle.plat_events.specs.Words.{has_bit}
-use Rattle.plat_words.proofs.SingleBits.{has_bit-and}
+use Rattle.plat_words.proofs.SingleBits.{has_bit-and, not-test}
 use Rattle.plat_shoot.proofs.masks.without.Goals as goal
 
-not_test : (a : ℕ) → a < 2 → (1 - a == 1) ≡ not (a == 1)
-not_test a h = grind (arith, nat_tests)
-
 has_bit-not : (b i : ℕ) → b < 2 ^ 32 → i < 32 → has_bit (2 ^ 32 - 1 - b) i ≡ not (has_bit b i)
-has_bit-not b i h k = ap (λ x. x == 1) (bit_at_not w32 b i h k) ∙ not_test (bit_at b i) (bit_at-lt b i)
+has_bit-not b i h k = ap (λ x. x == 1) (bit_at_not w32 b i h k) ∙ not-test (bit_at b i) (bit_at-lt b i)
 
 pub returns-clause-bits : goal.returns-clause-bits
 returns-clause-bits c = λ i l.

@@ -37,6 +37,7 @@ returns-clause-held c =
       | in-Platinum+in_ok-new-in-Platinum w ↦ ap (λ (a : ArrayVec Actor). map (held m) a.items) w.actors-is
           ∙ ap (map (held m)) w.push-in-Platinum.ensures.items
           ∙ held-with m c.loop-number.actors.items c.loop-number.number
-          (record { number = c.args.cfg.now.nodes; part = part.Daemon w.in_ok-new-in-Platinum.field-0 }) w.in-Platinum.t1 w.in-Platinum.t2 c.loop-number.invariant.held all
+          (record { number = c.args.cfg.now.nodes; part = part.Daemon w.in_ok-new-in-Platinum.field-0 }) w.in-Platinum.t1 w.in-Platinum.t2
+          c.loop-number.invariant.held all
           (ap (λ (p : Private). (c.args.cfg.now.nodes, p)) w.in_ok-new-in-Platinum.ensures.start) w.in-Platinum.is
     ]

@@ -5,7 +5,8 @@ use Rattle.plat_text.proofs.numbers.read_u32.Goals as goal
 pub returns-in-None : goal.returns-in-None
 returns-in-None c =
     let i = c.loop-digit.invariant in
-    number_too_large c.args.word.now c.loop-digit.digit-index c.loop-digit.value i.1 c.loop-digit-test.true i.3 (omega (arith, c.in-None.ensures))
+    number_too_large c.args.word.now c.loop-digit.digit-index c.loop-digit.value i.1 c.loop-digit-test.true i.3
+    (omega (arith, c.in-None.ensures))
 
 pub returns : goal.returns
 returns c =

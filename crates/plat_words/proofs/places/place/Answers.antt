@@ -2,7 +2,7 @@
 use Rattle.std.proofs.Common.{◌∙◌, sym, arith}
 use Rattle.plat_base.specs.Seen.{machine}
 use Rattle.plat_base.proofs.LimitLemmas.{nodes_most, frames_most, words_most, pages_most}
-use Rattle.plat_words.proofs.Entries.{entries_most_of}
+use Rattle.plat_base.proofs.EntryLimits.{entries_most_of}
 use Rattle.plat_words.proofs.PlacesApart.{memory_apart, memory_most}
 use Rattle.plat_words.proofs.places.place.Goals as goal
 

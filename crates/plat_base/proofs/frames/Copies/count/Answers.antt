@@ -8,7 +8,9 @@ use Rattle.plat_base.proofs.frames.Copies.count.Goals as goal
 
 pub returns-clause-count : goal.returns-clause-count
 returns-clause-count c =
-    count_from_yields_List c.filter.result _ c.count.ensures.ran (YieldsList-from_filter _ (λ s. nat_lt s 64) (YieldsList-from_slice c.self.inside.slots cc) c.filter.ensures.closure (λ x r q k. search (rules, tests)))
+    count_from_yields_List c.filter.result _ c.count.ensures.ran
+    (YieldsList-from_filter _ (λ s. nat_lt s 64) (YieldsList-from_slice c.self.inside.slots cc) c.filter.ensures.closure
+    (λ x r q k. search (rules, tests)))
     ∙ sym (length-frames_from 0 c.self.inside.slots) ∙ ap (λ (fs : List Frame). length fs) c.self.view_is
 
 pub returns-clause-rising : goal.returns-clause-rising

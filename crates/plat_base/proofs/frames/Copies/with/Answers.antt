@@ -8,4 +8,5 @@ invariant_of-result c = AreSlots-set _ _ _ (omega arith) c.self.invariant
 
 pub returns : goal.returns
 returns c =
-    frames_from-set 0 _ _ c.args.frame.module c.self.inside.slots (omega arith) (omega arith) c.requires.number ∙ ap (with_frame c.args.frame) c.self.view_is
+    frames_from-set 0 _ _ c.args.frame.module c.self.inside.slots (omega arith) (omega arith) c.requires.number
+    ∙ ap (with_frame c.args.frame) c.self.view_is

@@ -4,4 +4,8 @@ use Rattle.plat_base.proofs.journals.Journals.new.Given as goal
 
 abbrev pub invariant-loop : goal.invariant-loop
 invariant-loop l =
-    record { empty : lists_seen l.lists.items ≡ replicate l.counter []; long : vec_len l.lists ≡ l.counter; room : l.actors ≤ vec_capacity l.lists }
+    record {
+      empty : lists_seen l.lists.items ≡ replicate l.counter [];
+      long : vec_len l.lists ≡ l.counter;
+      room : l.actors ≤ vec_capacity l.lists;
+    }

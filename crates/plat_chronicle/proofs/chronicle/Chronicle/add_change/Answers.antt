@@ -8,7 +8,8 @@ use Rattle.plat_chronicle.proofs.PresentLemmas.{Follows-more, Shows-fits, seq_of
 use Rattle.plat_chronicle.proofs.chronicle.Chronicle.add_change.Goals as goal
 
 pub change-requires-clause-fits : goal.change-requires-clause-fits
-change-requires-clause-fits c = Shows-fits (machine c.self.inside.cfg) c.self.inside.items.items c.self.inside.present c.self.invariant.shows
+change-requires-clause-fits c =
+    Shows-fits (machine c.self.inside.cfg) c.self.inside.items.items c.self.inside.present c.self.invariant.shows
 
 pub change-requires-clause-count : goal.change-requires-clause-count
 change-requires-clause-count c =

@@ -10,7 +10,8 @@ returns-in-Writes c = λ pages items shows.
     let inside = c.requires.page in
     let read = get_or_default c.args.self.now.pages.items c.args.change.now.page c.index_mut-highest.result.now no_removal inside in
     let here = shows.size in
-    let kept = ShowsRemovals-writes pages items c.args.change.now c.args.self.now.pages.items shows c.in-Writes.is (omega arith) c.requires.actor in
+    let kept = ShowsRemovals-writes pages items c.args.change.now c.args.self.now.pages.items shows c.in-Writes.is (omega arith)
+    c.requires.actor in
     grind (arith, kept, read)
 
 pub returns-in-All : goal.returns-in-All
@@ -18,5 +19,6 @@ returns-in-All c = λ pages items shows.
     let inside = c.requires.page in
     let read = get_or_default c.args.self.now.pages.items c.args.change.now.page c.index_mut-highest.result.now no_removal inside in
     let here = shows.size in
-    let kept = ShowsRemovals-all pages items c.args.change.now c.args.self.now.pages.items shows c.in-All.is (omega arith) c.requires.actor in
+    let kept = ShowsRemovals-all pages items c.args.change.now c.args.self.now.pages.items shows c.in-All.is (omega arith)
+    c.requires.actor in
     grind (arith, kept, read)

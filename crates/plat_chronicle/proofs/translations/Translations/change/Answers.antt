@@ -17,7 +17,18 @@ returns-in-Some c = λ items shows.
     let kept = c.remove_own.ensures in
     ShowsTranslations-change m items change pmaps c.install.new.self shows node
     (grind (arith, read, wide, kept.wide, c.install.ensures, length-set c.remove_own.new.pmap))
-    (λ entry inside. grind (arith, nat_tests, read, wide, kept.wide, kept.places entry, c.install.ensures, c.in-Some.is, c.requires.grant, get_or-granted c.remove_own.new.pmap c.in-Some.grant change.seq entry))
+    (λ entry inside. grind (
+      arith,
+      nat_tests,
+      read,
+      wide,
+      kept.wide,
+      kept.places entry,
+      c.install.ensures,
+      c.in-Some.is,
+      c.requires.grant,
+      get_or-granted c.remove_own.new.pmap c.in-Some.grant change.seq entry,
+    ))
 
 pub returns-in_default : goal.returns-in_default
 returns-in_default c = λ items shows.

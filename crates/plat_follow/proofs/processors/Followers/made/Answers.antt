@@ -5,7 +5,8 @@ use Rattle.plat_base.specs.Seen.{machine}
 use Rattle.plat_follow.specs.Wanted.{operation_seen}
 use Rattle.plat_follow.specs.Followed.{FollowerSeen, AllStand, AllFollow}
 use Rattle.plat_follow.specs.declared.wanted.Wanted.{Wanted}
-use Rattle.plat_follow.proofs.ProcessorLemmas.{Stands-at, Follows-at, AllStand-set, AllFollow-set, AllFollow-none, IsMade-others, IsMade-next}
+use Rattle.plat_follow.proofs.ProcessorLemmas.{Stands-at, Follows-at, AllStand-set, AllFollow-set, AllFollow-none, IsMade-others}
+use Rattle.plat_follow.proofs.ProcessorLemmas.{IsMade-next}
 use Rattle.plat_follow.proofs.processors.Followers.made.Goals as goal
 use Rattle.plat_follow.proofs.processors.Followers.made.Goals.{else-at-len-via-then-at-len+else-is_some, else-at-len-via-else-at-len}
 

@@ -8,4 +8,9 @@ most_is : MOST_ITEMS ≡ 2621440
 most_is = refl
 
 pub new-requires-2-clause-most : goal.new-requires-2-clause-most
-new-requires-2-clause-most c = omega (arith, c.most_items-most.ensures, journal_rooms-most (machine c.args.cfg.now) c.args.cfg.now.limits, most_is)
+new-requires-2-clause-most c = omega (
+  arith,
+  c.most_items-most.ensures,
+  journal_rooms-most (machine c.args.cfg.now) c.args.cfg.now.limits,
+  most_is,
+)

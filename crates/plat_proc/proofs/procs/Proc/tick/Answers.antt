@@ -11,7 +11,8 @@ use Rattle.plat_pmap.specs.Slots.{Agrees}
 use Rattle.plat_proc.specs.ProcSeen.{ProcSeen}
 use Rattle.plat_proc.proofs.AccessLemmas.{agrees-reached}
 use Rattle.plat_proc.proofs.FitsLemmas.{stands}
-use Rattle.plat_proc.proofs.TurnLemmas.{place-stands, turns-few}
+use Rattle.plat_proc.proofs.TurnLemmas.{place-stands}
+use Rattle.plat_local_laws.proofs.WordLaws.{turns-few}
 use Rattle.plat_proc.proofs.procs.Proc.tick.Goals as goal
 
 pub overflow_add-self : goal.overflow_add-self

@@ -2,7 +2,7 @@ use Rattle.std.proofs.Common.{◌≡◌, ℕ, true, Some, refl, sym, ap, ◌∙�
 use Rattle.std.specs.Prelude.{IsTrue}
 use Rattle.plat_base.specs.Seen.{machine}
 use Rattle.plat_base.specs.declared.configs.Config.{Config}
-use Rattle.plat_handler.specs.HandlerSeen.{HandlerSeen}
+use Rattle.plat_handler.specs.HandlerSeen.{HandlerSeen, asked}
 use Rattle.plat_proc.specs.contracts.procs.Proc.{the_view}
 use Rattle.plat_proc.specs.declared.procs.Proc.TheInside.{Inside}
 use Rattle.plat_proc.specs.declared.places.Place.TheVariants as place
@@ -11,7 +11,10 @@ use Rattle.plat_proc.specs.Fits.{Fits}
 use Rattle.plat_proc.specs.Followed.{told_to}
 use Rattle.plat_proc.specs.Places.{is_faulting}
 use Rattle.plat_proc.specs.ProcSeen.{ProcSeen}
-use Rattle.plat_proc.proofs.ToldLemmas.{Faults, Follows, faults-of, is-faulting, word-state, word-slots, word-handles, poll-state, poll-slots, frameless-state, frameless-slots, granted-state, granted-slots, unlocks-of, unlocks-wants, unlocks-page, unlocks-entries, unlocks-room, unlocks-agrees}
+use Rattle.plat_handler.proofs.HandlerLemmas.{is_word_asked-word}
+use Rattle.plat_proc.proofs.ToldLemmas.{Faults, Follows, faults-of, is-faulting, word-state, word-slots, word-handles, poll-state}
+use Rattle.plat_proc.proofs.ToldLemmas.{poll-slots, frameless-state, frameless-slots, granted-state, granted-slots, unlocks-of}
+use Rattle.plat_proc.proofs.ToldLemmas.{unlocks-wants, unlocks-page, unlocks-entries, unlocks-room, unlocks-agrees}
 use Rattle.plat_proc.proofs.FitsLemmas.{stands}
 use Rattle.plat_proc.proofs.procs.Proc.told.Goals as goal
 
@@ -46,12 +49,14 @@ went_on-requires-clause-entries c =
 pub invariant_of-self : goal.invariant_of-self
 invariant_of-self c = (
   c.self.invariant.0,
-  word-handles (machine c.args.cfg.now) c.went_on.new.handler c.self.inside.place c.in-Word.at c.in-Word.op
-      (stands-faulting c.args.cfg.now c.self.inside c.args.self.now c.self.view_is c.requires.faulting) c.in-Word.ensures.asks,
+  let word = is_word_asked-word (asked (machine c.args.cfg.now) c.went_on.new.handler)
+      (sym c.went_on.ensures.asks ∙ c.if-went_on.true) in
+      word-handles (machine c.args.cfg.now) c.went_on.new.handler c.self.inside.place word.0 word.1
+      (stands-faulting c.args.cfg.now c.self.inside c.args.self.now c.self.view_is c.requires.faulting) word.2,
 )
 
-pub returns-in-Word-clause-state : goal.returns-in-Word-clause-state
-returns-in-Word-clause-state c =
+pub returns-then-went_on-clause-state : goal.returns-then-went_on-clause-state
+returns-then-went_on-clause-state c =
     let cfg = c.args.cfg.now in
     let m = machine cfg in
     let inside = c.self.inside in
@@ -65,11 +70,12 @@ returns-in-Word-clause-state c =
     let follows : Follows m y h g n pmap = record { stage = w.stage; maps = w.pmap; actor = w.actor; now = w.now } in
     let fits = fits-here cfg inside c.args.self.now c.self.view_is c.requires.fits in
     let here = stands-faulting cfg inside c.args.self.now c.self.view_is c.requires.faulting in
-    word-state m y h g n pmap inside.place c.in-Word.at c.in-Word.op fits.processor faults follows here c.in-Word.ensures.asks
+    let word = is_word_asked-word (asked m g) (sym w.asks ∙ c.if-went_on.true) in
+    word-state m y h g n pmap inside.place word.0 word.1 fits.processor faults follows here word.2
     ∙ state-told cfg inside c.args.self.now c.self.view_is n
 
-pub returns-in-Word-clause-slots : goal.returns-in-Word-clause-slots
-returns-in-Word-clause-slots c =
+pub returns-then-went_on-clause-slots : goal.returns-then-went_on-clause-slots
+returns-then-went_on-clause-slots c =
     let cfg = c.args.cfg.now in
     let m = machine cfg in
     let inside = c.self.inside in
@@ -81,7 +87,8 @@ returns-in-Word-clause-slots c =
     let pmap = c.went_on.new.pmap in
     let w = c.went_on.ensures in
     let follows : Follows m y h g n pmap = record { stage = w.stage; maps = w.pmap; actor = w.actor; now = w.now } in
-    word-slots m y h g n pmap c.in-Word.at c.in-Word.op faults follows c.in-Word.ensures.asks
+    let word = is_word_asked-word (asked m g) (sym w.asks ∙ c.if-went_on.true) in
+    word-slots m y h g n pmap word.0 word.1 faults follows word.2
     ∙ slots-told cfg inside c.args.self.now c.self.view_is n
 
 pub returns-in-Poll-clause-state : goal.returns-in-Poll-clause-state
@@ -98,7 +105,7 @@ returns-in-Poll-clause-state c =
     let w = c.went_on.ensures in
     let follows : Follows m y h g n pmap = record { stage = w.stage; maps = w.pmap; actor = w.actor; now = w.now } in
     let fits = fits-here cfg inside c.args.self.now c.self.view_is c.requires.fits in
-    poll-state m y h g n pmap fits.processor faults follows c.in-Poll.ensures.asks ∙ state-told cfg inside c.args.self.now c.self.view_is n
+    poll-state m y h g n pmap fits.processor faults follows c.in-Poll.ensures ∙ state-told cfg inside c.args.self.now c.self.view_is n
 
 pub returns-in-Poll-clause-slots : goal.returns-in-Poll-clause-slots
 returns-in-Poll-clause-slots c =
@@ -113,7 +120,7 @@ returns-in-Poll-clause-slots c =
     let pmap = c.went_on.new.pmap in
     let w = c.went_on.ensures in
     let follows : Follows m y h g n pmap = record { stage = w.stage; maps = w.pmap; actor = w.actor; now = w.now } in
-    poll-slots m y h g n pmap faults follows c.in-Poll.ensures.asks ∙ slots-told cfg inside c.args.self.now c.self.view_is n
+    poll-slots m y h g n pmap faults follows c.in-Poll.ensures ∙ slots-told cfg inside c.args.self.now c.self.view_is n
 
 pub returns-in-NoFrames-clause-state : goal.returns-in-NoFrames-clause-state
 returns-in-NoFrames-clause-state c =
@@ -129,7 +136,7 @@ returns-in-NoFrames-clause-state c =
     let w = c.went_on.ensures in
     let follows : Follows m y h g n pmap = record { stage = w.stage; maps = w.pmap; actor = w.actor; now = w.now } in
     let fits = fits-here cfg inside c.args.self.now c.self.view_is c.requires.fits in
-    frameless-state m y h g n pmap fits.processor faults follows c.in-NoFrames.ensures.asks
+    frameless-state m y h g n pmap fits.processor faults follows c.in-NoFrames.ensures
     ∙ state-told cfg inside c.args.self.now c.self.view_is n
 
 pub returns-in-NoFrames-clause-slots : goal.returns-in-NoFrames-clause-slots
@@ -145,7 +152,7 @@ returns-in-NoFrames-clause-slots c =
     let pmap = c.went_on.new.pmap in
     let w = c.went_on.ensures in
     let follows : Follows m y h g n pmap = record { stage = w.stage; maps = w.pmap; actor = w.actor; now = w.now } in
-    frameless-slots m y h g n pmap faults follows c.in-NoFrames.ensures.asks
+    frameless-slots m y h g n pmap faults follows c.in-NoFrames.ensures
     ∙ slots-told cfg inside c.args.self.now c.self.view_is n
 
 pub granted-requires-clause-wants : goal.granted-requires-clause-wants
@@ -162,7 +169,7 @@ granted-requires-clause-wants c =
     let w = c.went_on.ensures in
     let follows : Follows m y h g n pmap = record { stage = w.stage; maps = w.pmap; actor = w.actor; now = w.now } in
     let fits = fits-here cfg inside c.args.self.now c.self.view_is c.requires.fits in
-    let unlocks = unlocks-of m y h g n pmap c.in-Granted.change faults follows c.in-Granted.ensures.asks in
+    let unlocks = unlocks-of m y h g n pmap c.in-Granted.change faults follows c.in-Granted.ensures in
     unlocks-wants m y n pmap c.in-Granted.change cfg.limits fits unlocks
 
 pub granted-requires-clause-page : goal.granted-requires-clause-page
@@ -179,7 +186,7 @@ granted-requires-clause-page c =
     let w = c.went_on.ensures in
     let follows : Follows m y h g n pmap = record { stage = w.stage; maps = w.pmap; actor = w.actor; now = w.now } in
     let fits = fits-here cfg inside c.args.self.now c.self.view_is c.requires.fits in
-    let unlocks = unlocks-of m y h g n pmap c.in-Granted.change faults follows c.in-Granted.ensures.asks in
+    let unlocks = unlocks-of m y h g n pmap c.in-Granted.change faults follows c.in-Granted.ensures in
     unlocks-page m y n pmap c.in-Granted.change cfg.limits fits unlocks
 
 pub granted-requires-clause-entries : goal.granted-requires-clause-entries
@@ -196,7 +203,7 @@ granted-requires-clause-entries c =
     let w = c.went_on.ensures in
     let follows : Follows m y h g n pmap = record { stage = w.stage; maps = w.pmap; actor = w.actor; now = w.now } in
     let fits = fits-here cfg inside c.args.self.now c.self.view_is c.requires.fits in
-    let unlocks = unlocks-of m y h g n pmap c.in-Granted.change faults follows c.in-Granted.ensures.asks in
+    let unlocks = unlocks-of m y h g n pmap c.in-Granted.change faults follows c.in-Granted.ensures in
     unlocks-entries m y n pmap c.in-Granted.change cfg.limits fits unlocks
 
 pub granted-requires-clause-room : goal.granted-requires-clause-room
@@ -213,7 +220,7 @@ granted-requires-clause-room c =
     let w = c.went_on.ensures in
     let follows : Follows m y h g n pmap = record { stage = w.stage; maps = w.pmap; actor = w.actor; now = w.now } in
     let fits = fits-here cfg inside c.args.self.now c.self.view_is c.requires.fits in
-    let unlocks = unlocks-of m y h g n pmap c.in-Granted.change faults follows c.in-Granted.ensures.asks in
+    let unlocks = unlocks-of m y h g n pmap c.in-Granted.change faults follows c.in-Granted.ensures in
     unlocks-room m y n pmap c.in-Granted.change cfg.limits fits unlocks
 
 pub granted-requires-clause-agrees : goal.granted-requires-clause-agrees
@@ -230,7 +237,7 @@ granted-requires-clause-agrees c =
     let w = c.went_on.ensures in
     let follows : Follows m y h g n pmap = record { stage = w.stage; maps = w.pmap; actor = w.actor; now = w.now } in
     let fits = fits-here cfg inside c.args.self.now c.self.view_is c.requires.fits in
-    let unlocks = unlocks-of m y h g n pmap c.in-Granted.change faults follows c.in-Granted.ensures.asks in
+    let unlocks = unlocks-of m y h g n pmap c.in-Granted.change faults follows c.in-Granted.ensures in
     unlocks-agrees m y n pmap c.in-Granted.change cfg.limits fits unlocks
 
 pub returns-in-Granted-clause-state : goal.returns-in-Granted-clause-state
@@ -247,7 +254,7 @@ returns-in-Granted-clause-state c =
     let w = c.went_on.ensures in
     let follows : Follows m y h g n pmap = record { stage = w.stage; maps = w.pmap; actor = w.actor; now = w.now } in
     let fits = fits-here cfg inside c.args.self.now c.self.view_is c.requires.fits in
-    c.granted.ensures.state ∙ granted-state m y h g n pmap c.in-Granted.change fits.processor faults follows c.in-Granted.ensures.asks
+    c.granted.ensures.state ∙ granted-state m y h g n pmap c.in-Granted.change fits.processor faults follows c.in-Granted.ensures
     ∙ state-told cfg inside c.args.self.now c.self.view_is n
 
 pub returns-in-Granted-clause-slots : goal.returns-in-Granted-clause-slots
@@ -263,5 +270,5 @@ returns-in-Granted-clause-slots c =
     let pmap = c.went_on.new.pmap in
     let w = c.went_on.ensures in
     let follows : Follows m y h g n pmap = record { stage = w.stage; maps = w.pmap; actor = w.actor; now = w.now } in
-    c.granted.ensures.slots ∙ granted-slots m y h g n pmap c.in-Granted.change faults follows c.in-Granted.ensures.asks
+    c.granted.ensures.slots ∙ granted-slots m y h g n pmap c.in-Granted.change faults follows c.in-Granted.ensures
     ∙ slots-told cfg inside c.args.self.now c.self.view_is n

@@ -10,11 +10,13 @@ loop-item-init c = c.new-sums.ensures (machine c.args.cfg.now) (rw c.self.view_i
 
 pub take_in-requires-clause-totals : goal.take_in-requires-clause-totals
 take_in-requires-clause-totals c =
-    sums-total_room (machine c.args.cfg.now) c.args.items.now c.loop-item.item-index c.loop-item.sums (omega arith) c.requires.few c.loop-item.invariant
+    sums-total_room (machine c.args.cfg.now) c.args.items.now c.loop-item.item-index c.loop-item.sums (omega arith) c.requires.few
+    c.loop-item.invariant
 
 pub take_in-requires-clause-counts : goal.take_in-requires-clause-counts
 take_in-requires-clause-counts c =
-    sums-count_room (machine c.args.cfg.now) c.args.items.now c.loop-item.item-index c.loop-item.sums (omega arith) c.requires.few c.loop-item.invariant
+    sums-count_room (machine c.args.cfg.now) c.args.items.now c.loop-item.item-index c.loop-item.sums (omega arith) c.requires.few
+    c.loop-item.invariant
 
 pub loop-item-preserved : goal.loop-item-preserved
 loop-item-preserved c =

@@ -12,7 +12,9 @@ returns-then-live-eq0-clause-after c =
     sym (ap (after_choice c.args.self.now) (choice_of_nobody c.args.self.now c.args.live c.if-live-eq0.true))
 
 is_next : (c : goal.After-chosen-1) → IsNext c.args.self.now c.args.live c.next-chosen.new.self c.next-chosen.result
-is_next c = rw (← c.self.view_is) (next_is _ c.args.live c.next-chosen.new.self c.next-chosen.result (omega arith) c.if-live-eq0.false c.next-chosen.ensures.chosen c.next-chosen.ensures.turns)
+is_next c = rw (← c.self.view_is)
+    (next_is _ c.args.live c.next-chosen.new.self c.next-chosen.result (omega arith) c.if-live-eq0.false c.next-chosen.ensures.chosen
+    c.next-chosen.ensures.turns)
 
 pub invariant_of-self : goal.invariant_of-self
 invariant_of-self c = record {

@@ -2,7 +2,6 @@ use Rattle.std.proofs.Common.{◌≡◌, ℕ, List, true, ap, sym, ◌∙◌, su
 use Rattle.std.proofs.lemmas.Bool.Decides.{nat_tests}
 use Rattle.std.proofs.Common.{arith}
 use Rattle.plat_base.specs.Seen.{machine}
-use Rattle.plat_base.specs.declared.words.Op.{Op}
 use Rattle.plat_base.specs.declared.words.WordName.{WordName}
 use Rattle.plat_events.specs.Places.{is_word}
 use Rattle.plat_events.specs.Shootdowns.{shot_next}
@@ -20,7 +19,7 @@ returns-clause-fits c =
     let fits = subst (λ (st : Step). ShootFits m o.actor o.page (shoot_seen posts st)) c.in-Makes.is before.shoot in
     let name : is_word m (shot_next m o.actor o.page o.removed posts shot).0 c.args.old ≡ true =
     ap (λ (ps : List ℕ). is_word m (shot_next m o.actor o.page o.removed ps shot).0 c.args.old) (sym c.as_slice.ensures.value)
-    ∙ ap (λ (x : WordName × Op). is_word m x.0 c.args.old) (sym c.operation-name.ensures.operation)
+    ∙ ap (λ (x : WordName). is_word m x c.args.old) (sym c.name_of-name.ensures)
     ∙ sym c.is_word.ensures ∙ grind (arith, nat_tests, c.if-not-is_word.false) in
     record {
       actor = before.actor;
