@@ -6,5 +6,6 @@ pub mod RuleLemmas
 pub mod ChoiceLemmas
 pub mod EntryLemmas
 pub mod EntryLimits
+pub mod EntryLists
 pub mod LimitLemmas
 pub mod RoomLemmas

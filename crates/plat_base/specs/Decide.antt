@@ -6,7 +6,8 @@ use Rattle.plat_base.specs.Verdicts.{Answer}
 use Rattle.plat_base.specs.Machine.{Machine}
 use Rattle.plat_base.specs.Pages.{distance}
 use Rattle.plat_base.specs.Copies.{copy_on, with_frame}
-use Rattle.plat_base.specs.Alike.{same_verdict}
+use Rattle.plat_base.specs.Alike.{same_action, same_verdict}
+use Rattle.plat_base.specs.Directories.{sets_last}
 use Rattle.plat_base.specs.declared.frames.Frame.{Frame}
 use Rattle.plat_base.specs.declared.frames.Dir.{Dir}
 use Rattle.plat_base.specs.declared.frames.State.{State}
@@ -99,40 +100,94 @@ abbrev pub decision : Action → Removed → Dir → Bool → Frame → Decision
 decision action removed after sets_last frame =
     record { action = action; removed = removed; after = after; sets_last = sets_last; frame = frame }
 
--- what each row does; frozen is the frozen bit after it
+-- ---- the table, column by column
+
+abbrev pub row_action : Row → Action
+row_action ReadFill = action.Fill
+row_action ReadLocal = action.MapLocal
+row_action ReadRemote = action.MapRemote
+row_action ReadCopy = action.Replicate
+row_action ReadRemoteDirty = action.MapRemote
+row_action ReadCopyDirty = action.Replicate
+row_action WriteFill = action.Fill
+row_action WriteLocal = action.MapLocal
+row_action WriteRemote = action.MapRemote
+row_action WriteMove = action.Migrate
+row_action CollapseHere = action.Collapse
+row_action CollapseNear = action.Collapse
+row_action WriteMoveMany = action.Migrate
+row_action Thawed = action.Thaw
+
+abbrev pub row_removed : Row → Removed
+row_removed ReadFill = removed.Nothing
+row_removed ReadLocal = removed.Nothing
+row_removed ReadRemote = removed.Nothing
+row_removed ReadCopy = removed.Nothing
+row_removed ReadRemoteDirty = removed.Nothing
+row_removed ReadCopyDirty = removed.Writes
+row_removed WriteFill = removed.Nothing
+row_removed WriteLocal = removed.Nothing
+row_removed WriteRemote = removed.Nothing
+row_removed WriteMove = removed.All
+row_removed CollapseHere = removed.All
+row_removed CollapseNear = removed.All
+row_removed WriteMoveMany = removed.All
+row_removed Thawed = removed.All
+
+-- the state after a row, by the state before it
+abbrev pub row_state : Row → State → State
+row_state ReadFill s = state.Present1
+row_state ReadLocal s = s
+row_state ReadRemote s = s
+row_state ReadCopy s = state.PresentPlus
+row_state ReadRemoteDirty s = state.Modified
+row_state ReadCopyDirty s = state.PresentPlus
+row_state WriteFill s = state.Modified
+row_state WriteLocal s = state.Modified
+row_state WriteRemote s = state.Modified
+row_state WriteMove s = state.Modified
+row_state CollapseHere s = state.Modified
+row_state CollapseNear s = state.Modified
+row_state WriteMoveMany s = state.Modified
+row_state Thawed s = thawed_state s
+
+-- the frame of a row: the one got, the node's own copy, or the nearest one; a thaw names the lowest
+abbrev pub row_frame : Machine → Row → List Frame → ℕ → Option Frame → Frame
+row_frame m ReadFill copies node got = unwrap_or got no_frame
+row_frame m ReadLocal copies node got = unwrap_or (copy_on node copies) no_frame
+row_frame m ReadRemote copies node got = nearest m node copies
+row_frame m ReadCopy copies node got = unwrap_or got no_frame
+row_frame m ReadRemoteDirty copies node got = nearest m node copies
+row_frame m ReadCopyDirty copies node got = unwrap_or got no_frame
+row_frame m WriteFill copies node got = unwrap_or got no_frame
+row_frame m WriteLocal copies node got = unwrap_or (copy_on node copies) no_frame
+row_frame m WriteRemote copies node got = nearest m node copies
+row_frame m WriteMove copies node got = unwrap_or got no_frame
+row_frame m CollapseHere copies node got = unwrap_or (copy_on node copies) no_frame
+row_frame m CollapseNear copies node got = nearest m node copies
+row_frame m WriteMoveMany copies node got = unwrap_or got no_frame
+row_frame m Thawed copies node got = first_frame copies
+
+-- the copies after an action that names this frame
+abbrev pub copies_by : Action → Frame → List Frame → List Frame
+copies_by action.Fill f copies = f ∷ []
+copies_by action.MapLocal f copies = copies
+copies_by action.MapRemote f copies = copies
+copies_by action.Replicate f copies = with_frame f copies
+copies_by action.Migrate f copies = f ∷ []
+copies_by action.Collapse f copies = f ∷ []
+copies_by action.Thaw f copies = copies
+
+-- a thaw alone clears the frozen bit
+abbrev pub keeps_frozen : Action → Bool
+keeps_frozen a = not (same_action a action.Thaw)
+
+-- what a row does; frozen is the frozen bit of a fault after it
 abbrev pub row_does : Machine → Row → Dir → Bool → ℕ → Option Frame → Decision
-row_does m ReadFill dir frozen node got =
-    let f = unwrap_or got no_frame in decision action.Fill removed.Nothing (after_with state.Present1 frozen (f ∷ [])) false f
-row_does m ReadLocal dir frozen node got =
-    decision action.MapLocal removed.Nothing (after_with dir.state frozen dir.copies) false (unwrap_or (copy_on node dir.copies) no_frame)
-row_does m ReadRemote dir frozen node got =
-    decision action.MapRemote removed.Nothing (after_with dir.state frozen dir.copies) false (nearest m node dir.copies)
-row_does m ReadCopy dir frozen node got =
-    let f = unwrap_or got no_frame
-    in decision action.Replicate removed.Nothing (after_with state.PresentPlus frozen (with_frame f dir.copies)) false f
-row_does m ReadRemoteDirty dir frozen node got =
-    decision action.MapRemote removed.Nothing (after_with state.Modified frozen dir.copies) false (nearest m node dir.copies)
-row_does m ReadCopyDirty dir frozen node got =
-    let f = unwrap_or got no_frame
-    in decision action.Replicate removed.Writes (after_with state.PresentPlus frozen (with_frame f dir.copies)) false f
-row_does m WriteFill dir frozen node got =
-    let f = unwrap_or got no_frame in decision action.Fill removed.Nothing (after_with state.Modified frozen (f ∷ [])) false f
-row_does m WriteLocal dir frozen node got =
-    decision action.MapLocal removed.Nothing (after_with state.Modified frozen dir.copies) false
-    (unwrap_or (copy_on node dir.copies) no_frame)
-row_does m WriteRemote dir frozen node got =
-    decision action.MapRemote removed.Nothing (after_with state.Modified frozen dir.copies) false (nearest m node dir.copies)
-row_does m WriteMove dir frozen node got =
-    let f = unwrap_or got no_frame in decision action.Migrate removed.All (after_with state.Modified frozen (f ∷ [])) true f
-row_does m CollapseHere dir frozen node got =
-    let f = unwrap_or (copy_on node dir.copies) no_frame
-    in decision action.Collapse removed.All (after_with state.Modified frozen (f ∷ [])) true f
-row_does m CollapseNear dir frozen node got =
-    let f = nearest m node dir.copies in decision action.Collapse removed.All (after_with state.Modified frozen (f ∷ [])) true f
-row_does m WriteMoveMany dir frozen node got =
-    let f = unwrap_or got no_frame in decision action.Migrate removed.All (after_with state.Modified frozen (f ∷ [])) true f
-row_does m Thawed dir frozen node got =
-    decision action.Thaw removed.All (after_with (thawed_state dir.state) false dir.copies) false (first_frame dir.copies)
+row_does m row dir frozen node got =
+    let action = row_action row in let frame = row_frame m row dir.copies node got in
+    decision action (row_removed row)
+    (after_with (row_state row dir.state) (keeps_frozen action && frozen) (copies_by action frame dir.copies)) (sets_last action) frame
 
 -- the decision for a node and a cause, under a policy's answer
 abbrev pub decide : Machine → Answer → Dir → Option ℕ → (now node : ℕ) → Cause → Option Frame → Decision

@@ -1,6 +1,8 @@
 -- what a history holds of one processor's guest: the values that it got, and the operations that it made
 use Rattle.std.specs.Prelude.{ℕ, ◌+◌, ◌%◌, ◌==◌, ◌&&◌, if◌then◌else◌, Bool, true, false, List, [], ◌∷◌, Option, Some, None}
 use Rattle.std.specs.List.{filter_map}
+use Rattle.std.specs.Option.{option_and_then}
+use Rattle.plat_base.specs.Items.{access_of}
 use Rattle.plat_base.specs.GuestRun.{Operation, Reaches, Switches, Reach, word_modulus}
 use Rattle.plat_base.specs.Alike.{same_kind}
 use Rattle.plat_base.specs.declared.items.Kind.{Kind}
@@ -15,10 +17,7 @@ reads_word kind.Store = false
 reads_word kind.Add = true
 
 abbrev pub value_of : ℕ → Item → Option ℕ
-value_of q (item.Access a) = if a.actor == q && reads_word a.kind then Some a.old else None
-value_of q (item.Change c) = None
-value_of q (item.Applied x) = None
-value_of q (item.Switch s) = None
+value_of q i = option_and_then (λ a. if a.actor == q && reads_word a.kind then Some a.old else None) (access_of i)
 
 -- the values that processor q's loads and fetch-and-adds got
 abbrev pub values_of : ℕ → List Item → List ℕ

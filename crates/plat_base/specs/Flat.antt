@@ -1,11 +1,11 @@
 -- flat memory: the value of each word, and how often it was written
 use Rattle.std.specs.Prelude.{ℕ, ◌+◌, ◌==◌, ◌&&◌, if◌then◌else◌, Bool, true, false, List}
 use Rattle.std.specs.List.{fold}
-use Rattle.plat_base.specs.Items.{is_access_that}
+use Rattle.std.specs.Option.{option_map_or}
+use Rattle.plat_base.specs.Items.{access_of, is_access_that}
 use Rattle.plat_base.specs.Machine.{Machine}
 use Rattle.plat_base.specs.Pages.{initial_value}
 use Rattle.plat_base.specs.declared.items.Item.{Item}
-use Rattle.plat_base.specs.declared.items.Item.TheVariants as item
 use Rattle.plat_base.specs.declared.items.Kind.{Kind}
 use Rattle.plat_base.specs.declared.items.Kind.TheVariants as kind
 
@@ -18,10 +18,7 @@ abbrev pub writes_word : (page word : ℕ) → Item → Bool
 writes_word page word = is_access_that (λ a. is_write a.kind && a.page == page && a.word == word)
 
 abbrev pub written : Item → ℕ
-written (item.Access a) = a.new
-written (item.Change c) = 0
-written (item.Applied x) = 0
-written (item.Switch s) = 0
+written i = option_map_or (λ a. a.new) (access_of i) 0
 
 -- the value of a word after these items
 abbrev pub flat_value : Machine → List Item → (page word : ℕ) → ℕ

@@ -1,7 +1,8 @@
 -- the translations that a processor holds, and the space that it is active in, by its own items
 use Rattle.std.specs.Prelude.{ℕ, ◌==◌, nat_lt, ◌&&◌, if◌then◌else◌, Bool, true, false, List, Option, Some, None}
 use Rattle.std.specs.List.{fold, list_any}
-use Rattle.plat_base.specs.Items.{is_change_that}
+use Rattle.std.specs.Option.{option_map_or}
+use Rattle.plat_base.specs.Items.{is_change_that, switch_of}
 use Rattle.plat_base.specs.Machine.{Machine}
 use Rattle.plat_base.specs.Pages.{page_of, program_of}
 use Rattle.plat_base.specs.Alike.{same_removed}
@@ -64,10 +65,7 @@ held_through m items q None = None
 held_through m items q (Some entry) = held m items q entry
 
 abbrev pub active_after : ℕ → ℕ → Item → ℕ
-active_after q space (item.Access a) = space
-active_after q space (item.Change c) = space
-active_after q space (item.Applied x) = space
-active_after q space (item.Switch s) = if s.actor == q then s.space else space
+active_after q space i = option_map_or (λ s. if s.actor == q then s.space else space) (switch_of i) space
 
 -- the space that processor q is active in
 abbrev pub active : Machine → List Item → ℕ → ℕ

@@ -37,6 +37,3 @@ pub use names::Name;
 pub use policies::{Decision, Policy, PolicyKind, Verdict};
 pub use statuses::{Bad, Rule, Status};
 pub use words::{Op, WordName};
-
-#[cfg(test)]
-mod tests;

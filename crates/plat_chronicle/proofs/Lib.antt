@@ -1,7 +1,6 @@
 pub mod RemovalLemmas
 pub mod SpaceLemmas
 pub mod OtherLemmas
-pub mod EntryLemmas
 pub mod TranslationLemmas
 pub mod PresentLemmas
 pub mod ChronicleLemmas

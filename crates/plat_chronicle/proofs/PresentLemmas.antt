@@ -4,7 +4,7 @@ use Rattle.std.specs.Prelude.{Option, Some, None, if◌then◌else◌}
 use Rattle.std.specs.List.{fold}
 use Rattle.std.proofs.lemmas.Bool.Decides.{nat_tests}
 use Rattle.plat_base.specs.Machine.{Machine}
-use Rattle.plat_base.specs.Directories.{seq_of, seq_after, change_of}
+use Rattle.plat_base.specs.Directories.{seq_of, seq_after, change_on}
 use Rattle.plat_base.specs.Flat.{flat_writes, writes_word}
 use Rattle.plat_base.specs.declared.items.Access.{Access}
 use Rattle.plat_base.specs.declared.items.Applied.{Applied}
@@ -98,7 +98,7 @@ seq_after-step n (Some c) = omega arith
 
 pub seq_of-at_most : (items : List Item) (page : ℕ) → seq_of items page ≤ length items
 seq_of-at_most items page = omega
-    (arith, fold-at_most (λ n i. seq_after n (change_of page i)) (λ n i. seq_after-step n (change_of page i)) 0 items)
+    (arith, fold-at_most (λ n i. seq_after n (change_on page i)) (λ n i. seq_after-step n (change_on page i)) 0 items)
 
 pub flat_writes-at_most : (items : List Item) (page word : ℕ) → flat_writes items page word ≤ length items
 flat_writes-at_most items page word =

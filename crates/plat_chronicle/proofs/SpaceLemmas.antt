@@ -4,13 +4,12 @@ use Rattle.std.specs.Prelude.{slice_index_or}
 use Rattle.plat_base.specs.Machine.{programs_seen}
 use Rattle.plat_base.specs.Pages.{no_program}
 use Rattle.plat_base.specs.declared.guests.GuestText.{GuestText}
-
-pub length_programs_seen : (gs : List GuestText) → length (programs_seen gs) ≡ length gs
-length_programs_seen [] = refl
-length_programs_seen (g ∷ gs) = grind (arith, length_programs_seen gs)
+use Rattle.plat_base.proofs.LimitLemmas.{length-programs_seen}
 
 pub space_programs_seen : (gs : List GuestText) (d : GuestText) (i : ℕ) → i < length gs
     → (slice_index_or (programs_seen gs) i no_program).space ≡ (slice_index_or gs i d).space
 space_programs_seen [] d i h = grind arith
 space_programs_seen (g ∷ gs) d zero h = refl
 space_programs_seen (g ∷ gs) d (suc i) h = grind (arith, space_programs_seen gs d i)
+
+pub ruleset programs = (space_programs_seen, length-programs_seen)

@@ -16,7 +16,7 @@ pub struct Spaces {
 }
 
 impl Spaces {
-    #[tactic(auto, using(crate::proofs::SpaceLemmas::space_programs_seen, crate::proofs::SpaceLemmas::length_programs_seen))]
+    #[tactic(auto, using(crate::proofs::SpaceLemmas::programs))]
     /// Every processor is active in its guest's start space.
     pub fn new(alloc: Global, cfg: &Config) -> Result<Spaces, AllocError>
         ensures { IfOk result (λ it. ShowsSpaces (machine cfg.now) [] it.active.items) }

@@ -9,7 +9,7 @@ ghost use Rattle.plat_base.specs.declared.items.Item.{Item as AnyItem};
 ghost use Rattle.plat_base.specs.declared.items.Item.TheVariants as item;
 ghost use Rattle.plat_chronicle.specs.Translations.{ShowsTranslations, kept};
 
-use plat_base::{Applied, Change, Config, Message, PAGES, Removed, Translation};
+use plat_base::{Applied, Change, Config, Message, Removed, Translation};
 use plat_pmap::Pmap;
 use std::alloc::{AllocError, Global};
 
@@ -42,10 +42,6 @@ fn remove_own(cfg: &Config, pmap: &mut Pmap, page: u32, removed: Removed)
         ≡ (if page_of (machine cfg.now) entry == page then
         kept_of removed (slice_index_or pmap.old entry None) else slice_index_or pmap.old entry None) }
 {
-    if page >= PAGES {
-        // No entry leads to such a page.
-        return;
-    }
     for entry in cfg.entries_of_page(page) {
         remove_entry(pmap, *entry, removed);
     }

@@ -1,13 +1,13 @@
 -- no line of a text is refused as too long: that is said of the bytes of a whole text alone
-use Rattle.std.proofs.Common.{◌≡◌, ◌≢◌, ℕ, zero, suc, ◌==◌, ◌+◌, Bool, true, false, ◌||◌, List, [], ◌∷◌, ◌++◌, length, refl, sym, ◌∙◌}
+use Rattle.std.proofs.Common.{◌≢◌, ℕ, ◌==◌, ◌+◌, Bool, true, false, List, [], ◌∷◌, ◌++◌, length}
 use Rattle.std.proofs.Common.{if◌then◌else◌}
-use Rattle.std.specs.Prelude.{◌^◌, Option, Some, None, Result, Ok, Err, nat_lt, nat_le, bytes_eq, codes, position}
+use Rattle.std.specs.Prelude.{◌^◌, Option, Some, None, Result, Ok, Err, nat_lt, nat_le, bytes_eq, position}
 use Rattle.std.specs.Str.Parse.{digits_value}
-use Rattle.std.specs.List.{list_any, slice_split}
+use Rattle.std.specs.List.{list_any}
 use Rattle.plat_grammar.specs.Lines.{LineText, Word, lines_of, uncommented, is_spelling, number_of}
-use Rattle.plat_grammar.specs.Forms.{◌>>=◌, Row, Rest, Stop, finished, broken, refused, is_bad, no_bad_byte, row_of, with_line, rest_of}
-use Rattle.plat_grammar.specs.Forms.{rows_of, missing, row_length, row_from, row_at, word_from, word_at, first_word, word_ahead, read_as}
-use Rattle.plat_grammar.specs.Forms.{one, exactly, within, number_in, under, number_below, key, any_number, number, below, nothing_from}
+use Rattle.plat_grammar.specs.Forms.{◌>>=◌, Row, Rest, Stop, finished, broken, is_bad, no_bad_byte, row_of, with_line, rest_of}
+use Rattle.plat_grammar.specs.Forms.{rows_of, missing, row_from, row_at, word_from, word_at, first_word, read_as}
+use Rattle.plat_grammar.specs.Forms.{one, exactly, within, number_in, under, number_below, key, nothing_from}
 use Rattle.plat_grammar.specs.Forms.{nothing, ◌·◌, made, maybe, each, listed, chosen, choice, once, opened, line_at, repeated, all_with}
 use Rattle.plat_grammar.specs.Forms.{over_from, over}
 use Rattle.plat_base.specs.Machine.{is_within}
@@ -176,15 +176,14 @@ keeps-line_at word read h rest fine =
 pub keeps-all_with : {A : Type 0} (word : List ℕ) (same : A → A → Bool) (read : Row → Result A Refused) → FineLine read → (rest : Rest)
     → FineStop rest.stop
     → Keeps (all_with word same read rest)
-keeps-all_with {A} word same read h rest fine = by rest.given [] rest.rows
+keeps-all_with {A} word same read h rest fine = by [] rest.rows
   where
-    by : (given : ℕ) (seen : List A) (rows : List Row) → Keeps (repeated word same read rest.stop given seen rows)
-    by given seen [] = missing-other rest.stop fine
-    by given seen (row ∷ rows) =
+    by : (seen : List A) (rows : List Row) → Keeps (repeated word same read rest.stop seen rows)
+    by seen [] = missing-other rest.stop fine
+    by seen (row ∷ rows) =
         line_then (word_at row) _ (fine-word_at row)
         (λ w. keeps_if (bytes_eq w.0.bytes word) _ _
-        (line_then (once same seen read w.1) _ (fine-once same seen read h w.1) (λ x. by (given + row_length row)
-        (seen ++ x ∷ []) rows)) fine)
+        (line_then (once same seen read w.1) _ (fine-once same seen read h w.1) (λ x. by (seen ++ x ∷ []) rows)) fine)
 
 pub fine-over : (rest : Rest) → FineStop rest.stop → Fine (over rest)
 fine-over rest h = by rest.stop rest.rows h

@@ -1,10 +1,10 @@
 -- the run of single operations of the schedule is that of the definition
 use Rattle.std.proofs.Common.{◌≡◌, ℕ, zero, suc, ◌+◌, ◌<◌, ◌≤◌, leb, ⊎_elim, if◌then◌else◌, Bool, true, false, List, [], ◌∷◌, length}
-use Rattle.std.proofs.Common.{filter, refl, sym, ap, subst, ◌∙◌, arith}
-use Rattle.std.specs.Prelude.{Option, None, Some, slice_get}
+use Rattle.std.proofs.Common.{refl, sym, ap, subst, ◌∙◌, arith}
+use Rattle.std.specs.Prelude.{Option, None, Some, slice_get, slice_set, filter}
 use Rattle.std.proofs.lemmas.Bool.{cases_Bool, leb-true, leb-false}
-use Rattle.std.proofs.lemmas.Bool.Decides.{nat_tests}
 use Rattle.std.proofs.lemmas.List.{length-map, length-set}
+use Rattle.std.proofs.lemmas.List.Elements.{filter_agree}
 use Rattle.std.proofs.lemmas.List.FromFn.{length-range_with_len}
 use Rattle.plat_base.specs.Machine.{Machine}
 use Rattle.plat_base.specs.Pages.{numbers}
@@ -16,8 +16,8 @@ use Rattle.plat_events.specs.Privates.{Private, actor_count, first_private}
 use Rattle.plat_events.specs.Events.{next_of}
 use Rattle.plat_events.specs.Runs.{Fine, ScheduledFine, event_at, event_by, event, live_actors, with_chosen, scheduled_events, most_events}
 use Rattle.plat_events.specs.Runs.{fine_run}
-use Rattle.plat_base.proofs.ChoiceLemmas.{among, choose-among, filter-among}
-use Rattle.plat_fine.specs.FineSeen.{FineSeen, is_live}
+use Rattle.plat_base.proofs.ChoiceLemmas.{choose-among, filter-among}
+use Rattle.plat_fine.specs.FineSeen.{FineSeen, is_live, event_in}
 use Rattle.plat_sched.specs.Actors.{is_set}
 use Rattle.plat_sched.specs.ScheduleSeen.{ScheduleSeen}
 use Rattle.plat_cmd.specs.Steps.{standing_fine, own_event, after_events}
@@ -81,6 +81,45 @@ events-actors m (suc k) = by (after_events m k) (events-actors m k) _
 pub actors_are_there : (m n : Machine) (x : ScheduledFine) (k : ℕ) → n ≡ m → x ≡ after_events m k → length x.fine.privates ≡ actor_count n
 actors_are_there m n x k same before =
     ap (λ (y : ScheduledFine). length y.fine.privates) before ∙ (events-actors m k ∙ ap actor_count (sym same))
+
+pub all_actors_stay : (x : FineSeen) (a : ℕ) → length (event_in x a).privates ≡ length x.fine.privates
+all_actors_stay x a = event-actors x.machine (policy_answer x.machine.policy) x.fine a
+
+-- ---- the live actors after an event of one that did not end
+
+live_set : (privates : List Private) (a : ℕ) (after : Private) → is_live privates a ≡ true
+    → is_live (slice_set privates a after) a ≡ true → (b : ℕ) → is_live (slice_set privates a after) b ≡ is_live privates b
+live_set [] a after was is b = refl
+live_set (p ∷ privates) zero after was is zero = is ∙ sym was
+live_set (p ∷ privates) zero after was is (suc b) = refl
+live_set (p ∷ privates) (suc a) after was is zero = refl
+live_set (p ∷ privates) (suc a) after was is (suc b) = live_set privates a after was is b
+
+live_kept : (privates : List Private) (a : ℕ) (after : Private) → is_live privates a ≡ true
+    → is_live (slice_set privates a after) a ≡ true → live_actors (slice_set privates a after) ≡ live_actors privates
+live_kept privates a after was is =
+    ap (λ (n : ℕ). filter (is_live (slice_set privates a after)) (numbers n)) (length-set privates a after)
+    ∙ filter_agree (is_live (slice_set privates a after)) (is_live privates) (live_set privates a after was is) (numbers (length privates))
+
+pub live_stay : (x : FineSeen) (a : ℕ) → is_live x.fine.privates a ≡ true → is_live (event_in x a).privates a ≡ true
+    → live_actors (event_in x a).privates ≡ live_actors x.fine.privates
+live_stay x a was is = by (slice_get s.privates a) is
+  where
+    s : Fine
+    s = x.fine
+
+    answer : Answer
+    answer = policy_answer x.machine.policy
+
+    made : (p : Private) (o : Option (ℕ × Op)) → is_live (event_at x.machine answer s a p o).privates a ≡ true
+        → live_actors (event_at x.machine answer s a p o).privates ≡ live_actors s.privates
+    made p None now = refl
+    made p (Some word) now = live_kept s.privates a _ was now
+
+    by : (o : Option Private) → is_live (event_by x.machine answer s a o).privates a ≡ true
+        → live_actors (event_by x.machine answer s a o).privates ≡ live_actors s.privates
+    by None now = refl
+    by (Some p) now = made p (next_of x.machine answer a p) now
 
 -- ---- event by event
 

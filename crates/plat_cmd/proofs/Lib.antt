@@ -2,6 +2,7 @@ pub mod ArgumentLemmas
 pub mod WordLemmas
 pub mod CommandLemmas
 pub mod StepLemmas
+pub mod LiveLemmas
 pub mod RunLemmas
 pub mod FineRunLemmas
 pub mod FaultLemmas
@@ -9,6 +10,7 @@ pub mod TextFaultLemmas
 pub mod ReadLemmas
 pub mod EndingLemmas
 pub mod PromiseLemmas
+pub mod ToldLemmas
 pub mod GoodLemmas
 pub mod RaceLemmas
 pub mod JudgingLemmas

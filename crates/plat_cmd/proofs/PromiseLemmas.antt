@@ -1,36 +1,28 @@
 -- what a command promises follows from what it did, or from why it stopped
 use Rattle.std.proofs.Common.{◌≡◌, ◌⊎◌, inl, inr, ℕ, ◌≤◌, true, false, Bool, List, [], refl, sym, ap, subst, ◌∙◌, ⊎_elim, arith}
-use Rattle.std.specs.Prelude.{Option, None, Some, IfSome, IsSomeAnd, IfOk, IfErr, OnOk, Result, Ok, Err}
-use Rattle.plat_base.specs.Seen.{machine}
+use Rattle.std.specs.Prelude.{Option, None, Some, IfSome, IsSomeAnd, IfOk, IfErr, Result, Ok, Err}
 use Rattle.plat_base.specs.Statuses.{status_of, ends_as, is_silent, refusal_of}
 use Rattle.plat_base.specs.declared.endings.End.TheVariants as end
-use Rattle.plat_base.specs.declared.configs.Config.{Config}
 use Rattle.plat_base.specs.declared.endings.Ended.{Ended}
 use Rattle.plat_base.specs.declared.items.Item.{Item}
 use Rattle.plat_base.specs.Verdicts.{policy_answer}
 use Rattle.plat_base.specs.declared.statuses.Bad.{Bad}
 use Rattle.plat_base.specs.declared.statuses.Status.{Status}
 use Rattle.plat_base.specs.declared.statuses.Status.TheVariants as status
-use Rattle.plat_grammar.specs.FirstFault.{text_at}
-use Rattle.plat_grammar.specs.Grammar.{IsTextOf}
 use Rattle.plat_grammar.specs.HistoryCanon.{History}
-use Rattle.plat_grammar.specs.HistoryFaults.{history_at}
-use Rattle.plat_grammar.specs.HistoryGrammar.{IsHistory, IsHistoryTextOf}
-use Rattle.plat_history.specs.Shown.{seen}
-use Rattle.plat_history.specs.declared.histories.History.{History as Read}
-use Rattle.plat_io.specs.Streams.{HasRisen, IsAtEnd, added}
+use Rattle.plat_io.specs.Streams.{HasRisen, added}
 use Rattle.plat_io.specs.Takes.{TakesCount}
 use Rattle.plat_io.specs.declared.sinks.Sink.{Ghosts}
 use Rattle.plat_io.specs.declared.sources.Source.{Ghosts as Reader}
 use Rattle.plat_gen.specs.Generated.{generated}
 use Rattle.plat_table.specs.Closed.{ClosedSeen}
-use Rattle.plat_cmd.specs.Inputs.{Input, machine_text, history_text, nothing, input_of, reads_some, Told, IsToldAs, IsToldHistory, IsRead}
+use Rattle.plat_cmd.specs.Inputs.{Input, machine_text, history_text, nothing, input_of, reads_some, Told, IsRead}
 use Rattle.plat_cmd.specs.Inputs.{HasRead, IfTold, IsFault, TakesText, too_long}
 use Rattle.plat_cmd.specs.Works.{HasPrinted, HasSummed, HasDone, bad_of, first_bad_of, IsFirstBad, ComesToEnd, IsWritten, whole_output}
 use Rattle.plat_cmd.specs.Works.{ends_left, output_of, ends_of, is_limited, is_run, is_judge, may_reach_limit, may_end}
 use Rattle.plat_cmd.specs.Judgings.{HasFailed}
 use Rattle.plat_cmd.specs.Promises.{IsNoRefusal, IsQuiet, IsEnded, CompletesWith, IsComplete, PromisesDoing, Promises}
-use Rattle.plat_cmd.specs.Steps.{IsStop, StopsAs, AcceptsAs, read_as, HasStopped, stop_status}
+use Rattle.plat_cmd.specs.Steps.{IsStop, StopsAs, HasStopped, stop_status}
 use Rattle.plat_cmd.specs.declared.words.Command.{Command}
 use Rattle.plat_cmd.specs.declared.words.Command.TheVariants as command
 use Rattle.plat_cmd.specs.declared.words.WordsFault.{WordsFault}
@@ -251,7 +243,8 @@ pub true_or_false : (b : Bool) → b ≡ true → b ≡ false → ⊥
 true_or_false true h k = absurd cc
 true_or_false false h k = absurd cc
 
-told_more : (i : Input) (told : Option (List ℕ)) (P Q : Told i → Type 0) → ((it : Told i) → P it → Q it) → IfTold i told P → IfTold i told Q
+pub told_more : (i : Input) (told : Option (List ℕ)) (P Q : Told i → Type 0) → ((it : Told i) → P it → Q it) → IfTold i told P
+    → IfTold i told Q
 told_more machine_text None P Q h holds = tt
 told_more machine_text (Some bytes) P Q h holds = λ m within text. h m (holds m within text)
 told_more history_text None P Q h holds = tt
@@ -359,9 +352,60 @@ stop_long (stop.Refused r) is = cc
 stop_long stop.ReadFault is = absurd cc
 stop_long stop.OutOfMemory is = absurd cc
 
--- a call took what a text may have, and not the byte above
-abbrev pub TakesShort : {S : Type 0} → Command → Reader S → S → S → Type 0
-TakesShort c source before after = TakesText (input_of c) (source.left before) (source.left after) ⊥
+-- ---- what was read, or why nothing was
+
+-- this was read, and it is all that the source can tell
+pub record HasReadAll {S : Type 0} (i : Input) (source : Reader S) (before after : S) (it : Told i) : Type 0 where
+  pub read : IsRead i source before after it
+  pub only : IfTold i (source.left before) (λ other. it ≡ other)
+  pub count : source.faults before ≤ source.faults after
+  -- what a text may have was taken, and not the byte above
+  pub short : TakesText i (source.left before) (source.left after) ⊥
+
+-- this is why nothing was read, or nothing done with it, and it is not the text if that is one
+pub record HasReadNone {S : Type 0} (i : Input) (source : Reader S) (before after : S) (why : Stop) : Type 0 where
+  pub stopped : IsStop i (source.left before) (source.faults before) (source.faults after) why
+  pub may : StopsAs i before after why
+  pub free : IfTold i (source.left before) (λ other. IsNoRefusal (stop_status why))
+  pub count : source.faults before ≤ source.faults after
+  pub taken : TakesText i (source.left before) (source.left after) (why ≡ stop.Refused too_long)
+
+module _ {S : Type 0} (source : Reader S) where
+  -- there was no memory to do something with what was read
+  pub wants_memory : (i : Input) (before after : S) (it : Told i) → HasReadAll i source before after it →
+      StopsAs i before after stop.OutOfMemory → HasReadNone i source before after stop.OutOfMemory
+  wants_memory i before after it all may = record {
+    stopped = tt;
+    may = may;
+    free = told_all i (source.left before) (λ it. IsNoRefusal (stop_status stop.OutOfMemory)) (λ it. inr refl);
+    count = all.count;
+    taken = takes_short i (source.left before) (source.left after) ⊥ (stop.OutOfMemory ≡ stop.Refused too_long) (λ f. f) (λ is. cc)
+        all.short;
+  }
+
+  -- nothing had to be read
+  pub reads_nothing : (x : S) → HasReadAll nothing source x x tt
+  reads_nothing x = record {
+    read = refl;
+    only = refl;
+    count = omega arith;
+    short = takes_nothing nothing (source.left x) ⊥ (λ f. f);
+  }
+
+  -- there was no memory to begin with
+  wants_at_once : (i : Input) (x : S) → HasReadNone i source x x stop.OutOfMemory
+  wants_at_once i x = record {
+    stopped = tt;
+    may = may i;
+    free = told_all i (source.left x) (λ it. IsNoRefusal (stop_status stop.OutOfMemory)) (λ it. inr refl);
+    count = omega arith;
+    taken = takes_nothing i (source.left x) (stop.OutOfMemory ≡ stop.Refused too_long) (λ is. cc);
+  }
+    where
+      may : (i : Input) → StopsAs i x x stop.OutOfMemory
+      may machine_text = tt
+      may history_text = tt
+      may nothing = refl
 
 module _ {S K : Type 0} (c : Command) (Does : Told (input_of c) → K → K → Status → List Item → Option ClosedSeen → Type 0)
     (output : Told (input_of c) → List Item → Option ClosedSeen → List ℕ)
@@ -379,47 +423,43 @@ module _ {S K : Type 0} (c : Command) (Does : Told (input_of c) → K → K → 
 
   -- a call that did its work with what it read, which is all that the source can tell
   pub did_so :
-      (it : Told (input_of c)) → IsRead (input_of c) source before after it → Works it → is_silent out.status ≡ false →
+      (it : Told (input_of c)) → HasReadAll (input_of c) source before after it → Works it → is_silent out.status ≡ false →
       IsEnded c sink old new out
       → ((other : Told (input_of c)) → Works other → IsQuiet (sink.faults old) (sink.faults new)
       → CompletesWith c other (output other out.kept.items out.ran) sink old new out)
-      → IfTold (input_of c) (source.left before) (λ other. it ≡ other) → source.faults before ≤ source.faults after →
-      TakesShort c source before after
       → PromisesDoing c Does output source sink before after old new out
-  did_so it read works told ended comes only count short =
+  did_so it all works told ended comes =
       record {
-        done = λ not_silent. (it, read, works);
+        done = λ not_silent. (it, all.read, works);
         bad = told_no_bad out.status (λ bad. HasRead (input_of c) source before after (λ other. IsFirstBad c other bad)) told;
         accepted = told_more (input_of c) (source.left before) (λ other. it ≡ other) Accepted (λ other same. inl (subst Works same works))
-            only;
+            all.only;
         complete = told_more (input_of c) (source.left before) (λ other. it ≡ other) Comes
-            (λ other same read_quiet quiet. comes other (subst Works same works) quiet) only;
+            (λ other same read_quiet quiet. comes other (subst Works same works) quiet) all.only;
         ended = ended;
         refused = told_no_refusal out.status (λ refused. IfSome (source.left before) (λ bytes. IsFault (input_of c) bytes refused)) told;
         read_fault = λ fault. absurd (true_or_false (is_silent out.status) (ap is_silent fault) told);
         taken = takes_short (input_of c) (source.left before) (source.left after) ⊥ (out.status ≡ status.Refused too_long) (λ f. f)
-            (told_not_long out.status told) short;
-        unread = read_unread (input_of c) source before after it read;
-        count = count;
+            (told_not_long out.status told) all.short;
+        unread = read_unread (input_of c) source before after it all.read;
+        count = all.count;
       }
 
   -- a command that found what it read bad, which is all that the source can tell
   found :
-      (it : Told (input_of c)) (bad : Bad) → IsRead (input_of c) source before after it → IsFirstBad c it bad
+      (it : Told (input_of c)) (bad : Bad) → HasReadAll (input_of c) source before after it → IsFirstBad c it bad
       → out.status ≡ status.HistoryBad bad → out.kept.items ≡ [] → out.ran ≡ None → new ≡ old
-      → IfTold (input_of c) (source.left before) (λ other. it ≡ other) → source.faults before ≤ source.faults after →
-      TakesShort c source before after
       → PromisesDoing c Does output source sink before after old new out
-  found it bad read first ends kept none written only count short = record {
+  found it bad all first ends kept none written = record {
     done = λ told. absurd (true_or_false (is_silent out.status) (ap is_silent ends) told);
     bad = subst (λ (now : Status). IfSome (bad_of now) (λ bad. HasRead (input_of c) source before after (λ it. IsFirstBad c it bad)))
         (sym ends)
-        (it, read, first);
+        (it, all.read, first);
     accepted = told_more (input_of c) (source.left before) (λ other. it ≡ other) Accepted (λ other same. inr (inl (is_bad other same)))
-        only;
+        all.only;
     complete = told_more (input_of c) (source.left before) (λ other. it ≡ other) Comes
         (λ other same quiet wrote. silent_complete c sink old new out other (output other out.kept.items out.ran) (ap is_silent ends)
-        (found_complete c other bad out.status out.kept.items (subst (λ it. IsFirstBad c it bad) same first))) only;
+        (found_complete c other bad out.status out.kept.items (subst (λ it. IsFirstBad c it bad) same first))) all.only;
     ended = record {
       ends = ap (may_end c) ends ∙ found_judges c it bad first;
       silent = λ h. written;
@@ -430,9 +470,9 @@ module _ {S K : Type 0} (c : Command) (Does : Told (input_of c) → K → K → 
         IfSome (refusal_of now) (λ refused. IfSome (source.left before) (λ bytes. IsFault (input_of c) bytes refused))) (sym ends) tt;
     read_fault = λ fault. absurd (bad_is_no_read_fault bad (sym ends ∙ fault));
     taken = takes_short (input_of c) (source.left before) (source.left after) ⊥ (out.status ≡ status.Refused too_long) (λ f. f)
-        (λ long. bad_not_long bad (sym ends ∙ long)) short;
-    unread = read_unread (input_of c) source before after it read;
-    count = count;
+        (λ long. bad_not_long bad (sym ends ∙ long)) all.short;
+    unread = read_unread (input_of c) source before after it all.read;
+    count = all.count;
   }
     where
       is_bad : (other : Told (input_of c)) → it ≡ other → IsSomeAnd (bad_of out.status) (IsFirstBad c other)
@@ -441,12 +481,9 @@ module _ {S K : Type 0} (c : Command) (Does : Told (input_of c) → K → K → 
 
   -- a command that stopped, and not because of its text if that is one
   pub stopped_so :
-      (s : Stop) → IsStop (input_of c) (source.left before) (source.faults before) (source.faults after) s →
-      StopsAs (input_of c) before after s → HasStopped s old new out
-      → IfTold (input_of c) (source.left before) (λ other. IsNoRefusal (stop_status s)) → source.faults before ≤ source.faults after
-      → TakesText (input_of c) (source.left before) (source.left after) (s ≡ stop.Refused too_long) →
-      PromisesDoing c Does output source sink before after old new out
-  stopped_so s is may has free count taken =
+      (s : Stop) → HasReadNone (input_of c) source before after s → HasStopped s old new out
+      → PromisesDoing c Does output source sink before after old new out
+  stopped_so s none has =
       let silent : is_silent out.status ≡ true = ap is_silent has.ended ∙ stop_is_silent s in
       let why = subst IsNoRefusal (sym has.ended) in
       record {
@@ -455,26 +492,26 @@ module _ {S K : Type 0} (c : Command) (Does : Told (input_of c) → K → K → 
             (sym has.ended)
             (stop_no_bad s (λ bad. HasRead (input_of c) source before after (λ it. IsFirstBad c it bad)));
         accepted = told_more (input_of c) (source.left before) (λ other. IsNoRefusal (stop_status s)) Accepted
-            (λ other no_refusal. inr (inr (why no_refusal))) free;
+            (λ other no_refusal. inr (inr (why no_refusal))) none.free;
         complete = told_more (input_of c) (source.left before) (λ other. IsNoRefusal (stop_status s)) Comes
-            (λ other no_refusal. comes other (why no_refusal)) free;
-        ended = stopped_end c sink old new out s (stop_may_end c before after s may) has;
+            (λ other no_refusal. comes other (why no_refusal)) none.free;
+        ended = stopped_end c sink old new out s (stop_may_end c before after s none.may) has;
         refused = subst (λ (now : Status).
             IfSome (refusal_of now) (λ refused. IfSome (source.left before) (λ bytes. IsFault (input_of c) bytes refused))) (sym has.ended)
-            (stop_refusal (input_of c) (source.left before) (source.faults before) (source.faults after) s is);
+            (stop_refusal (input_of c) (source.left before) (source.faults before) (source.faults after) s none.stopped);
         read_fault = λ fault. stop_read_fault (input_of c) (source.left before) (source.faults before) (source.faults after) s
-            is (sym has.ended ∙ fault);
+            none.stopped (sym has.ended ∙ fault);
         taken = takes_as (input_of c) (source.left before) (source.left after) (s ≡ stop.Refused too_long)
             (out.status ≡ status.Refused too_long)
-            (λ long. has.ended ∙ ap stop_status long) (λ long. stop_long s (sym has.ended ∙ long)) taken;
-        unread = stop_unread (input_of c) before after s may;
-        count = count;
+            (λ long. has.ended ∙ ap stop_status long) (λ long. stop_long s (sym has.ended ∙ long)) none.taken;
+        unread = stop_unread (input_of c) before after s none.may;
+        count = none.count;
       }
     where
       comes : (other : Told (input_of c)) → IsNoRefusal out.status → Comes other
       comes other (inl fault) = λ quiet wrote.
-          absurd (quiet (stop_read_fault (input_of c) (source.left before) (source.faults before) (source.faults after) s is (sym has.ended
-          ∙ fault)))
+          absurd (quiet (stop_read_fault (input_of c) (source.left before) (source.faults before) (source.faults after) s none.stopped
+          (sym has.ended ∙ fault)))
       comes other (inr want) = λ quiet wrote. wanting_with c sink old new out other (output other out.kept.items out.ran) want
 
   -- a command that ended before it did its work
@@ -486,33 +523,50 @@ module _ {S K : Type 0} (c : Command) (Does : Told (input_of c) → K → K → 
       PromisesDoing c Does output source sink before after old new out
   failed_so now has is may kept none unwritten count taken =
       ⊎_elim
-      (λ why. stopped_so why.why why.stopped (may why.why)
-      (record { ended = is ∙ why.ended; history = kept; no_threads = none; sink = unwritten }) why.no_refusal count
-      (takes_as (input_of c) (source.left before) (source.left after) (now ≡ status.Refused too_long) (why.why ≡ stop.Refused too_long)
-      (λ long. stop_long why.why (sym why.ended ∙ long)) (λ long. why.ended ∙ ap stop_status long) taken))
-      (λ bad. found bad.it bad.bad bad.read bad.first (is ∙ bad.ended) kept none unwritten bad.only count
-      (takes_short (input_of c) (source.left before) (source.left after) (now ≡ status.Refused too_long) ⊥
-      (λ long. bad_not_long bad.bad (sym bad.ended ∙ long)) (λ f. f) taken)) has
+      (λ why. stopped_so why.why
+      (record {
+        stopped = why.stopped;
+        may = may why.why;
+        free = why.no_refusal;
+        count = count;
+        taken =
+            takes_as (input_of c) (source.left before) (source.left after) (now ≡ status.Refused too_long) (why.why ≡ stop.Refused too_long)
+            (λ long. stop_long why.why (sym why.ended ∙ long)) (λ long. why.ended ∙ ap stop_status long) taken;
+      })
+      (record { ended = is ∙ why.ended; history = kept; no_threads = none; sink = unwritten }))
+      (λ bad. found bad.it bad.bad
+      (record {
+        read = bad.read;
+        only = bad.only;
+        count = count;
+        short =
+            takes_short (input_of c) (source.left before) (source.left after) (now ≡ status.Refused too_long) ⊥
+            (λ long. bad_not_long bad.bad (sym bad.ended ∙ long)) (λ f. f) taken;
+      })
+      bad.first (is ∙ bad.ended) kept none unwritten) has
 
 module _ {S K : Type 0} (c : Command) (source : Reader S) (sink : Ghosts K) (before after : S) (old new : K) (out : Outcome) where
   -- the same for what the commands do
   pub did :
-      (it : Told (input_of c)) → IsRead (input_of c) source before after it → HasDone c sink it old new out.status out.kept.items out.ran
-      → IfTold (input_of c) (source.left before) (λ other. it ≡ other) → source.faults before ≤ source.faults after →
-      TakesShort c source before after
-      → Promises c source sink before after old new out
-  did it read works only count short =
-      did_so c (HasDone c sink) (whole_output c) source sink before after old new out it read works
+      (it : Told (input_of c)) → HasReadAll (input_of c) source before after it
+      → HasDone c sink it old new out.status out.kept.items out.ran → Promises c source sink before after old new out
+  did it all works =
+      did_so c (HasDone c sink) (whole_output c) source sink before after old new out it all works
       (done_is_told sink old new out.status out.kept.items out.ran c it works) (did_end c sink old new out it works)
-      (λ other done quiet. did_complete c sink old new out other done quiet) only count short
+      (λ other done quiet. did_complete c sink old new out other done quiet)
 
   pub stopped :
-      (s : Stop) → IsStop (input_of c) (source.left before) (source.faults before) (source.faults after) s →
-      StopsAs (input_of c) before after s → HasStopped s old new out
-      → IfTold (input_of c) (source.left before) (λ other. IsNoRefusal (stop_status s)) → source.faults before ≤ source.faults after
-      → TakesText (input_of c) (source.left before) (source.left after) (s ≡ stop.Refused too_long) →
-      Promises c source sink before after old new out
+      (s : Stop) → HasReadNone (input_of c) source before after s → HasStopped s old new out
+      → Promises c source sink before after old new out
   stopped = stopped_so c (HasDone c sink) (whole_output c) source sink before after old new out
+
+  -- a command that did its work with what it read, or had no memory for it
+  pub did_or_not :
+      (it : Told (input_of c)) → HasReadAll (input_of c) source before after it → StopsAs (input_of c) before after stop.OutOfMemory
+      → HasDone c sink it old new out.status out.kept.items out.ran ⊎ HasStopped stop.OutOfMemory old new out
+      → Promises c source sink before after old new out
+  did_or_not it all may =
+      ⊎_elim (λ done. did it all done) (λ has. stopped stop.OutOfMemory (wants_memory source (input_of c) before after it all may) has)
 
   pub failed :
       (now : Status) → HasFailed (input_of c) source (IsFirstBad c) before after now → out.status ≡ now →
@@ -524,106 +578,43 @@ module _ {S K : Type 0} (c : Command) (source : Reader S) (sink : Ghosts K) (bef
 
 -- ---- reading nothing
 
-stops_for_want : {S : Type 0} (i : Input) (x : S) → StopsAs i x x stop.OutOfMemory
-stops_for_want machine_text x = tt
-stops_for_want history_text x = tt
-stops_for_want nothing x = refl
-
 module _ {S K : Type 0} (source : Reader S) (sink : Ghosts K) (x : S) (old new : K) (out : Outcome) where
   -- a command for which there was no memory before it read
   pub wanting : (c : Command) → HasStopped stop.OutOfMemory old new out → Promises c source sink x x old new out
-  wanting c has =
-      stopped c source sink x x old new out stop.OutOfMemory tt (stops_for_want (input_of c) x) has
-      (told_all (input_of c) (source.left x) (λ it. IsNoRefusal (stop_status stop.OutOfMemory)) (λ it. inr refl)) (omega arith)
-      (takes_nothing (input_of c) (source.left x) (stop.OutOfMemory ≡ stop.Refused too_long) (λ is. cc))
+  wanting c = stopped c source sink x x old new out stop.OutOfMemory (wants_at_once source (input_of c) x)
 
   -- commands on generated machines
   pub printed_or_not :
       (n : ℕ) → HasPrinted sink (generated n) old new out.status out.kept.items out.ran ⊎ HasStopped stop.OutOfMemory old new out
       → Promises (command.Gen n) source sink x x old new out
-  printed_or_not n =
-      ⊎_elim (λ done. did (command.Gen n) source sink x x old new out tt refl done refl (omega arith)
-      (takes_nothing nothing (source.left x) ⊥ (λ f. f))) (wanting (command.Gen n))
+  printed_or_not n = did_or_not (command.Gen n) source sink x x old new out tt (reads_nothing source x) refl
 
   pub summed_or_not :
       (n : ℕ) → HasSummed n sink (generated n) old new out.status out.kept.items out.ran ⊎ HasStopped stop.OutOfMemory old new out
       → Promises (command.Big n) source sink x x old new out
-  summed_or_not n =
-      ⊎_elim (λ done. did (command.Big n) source sink x x old new out tt refl done refl (omega arith)
-      (takes_nothing nothing (source.left x) ⊥ (λ f. f))) (wanting (command.Big n))
-
--- ---- reading a text
-
-module _ (told left : Option (List ℕ)) (result : Result Config Stop) where
-  pub told_as :
-      (cfg : Config) → result ≡ Ok cfg → IfOk result (λ cfg. IfSome told (λ bytes. IsTextOf bytes (machine cfg)))
-      → IfOk result (λ cfg. IfSome told (λ bytes. text_at bytes ≡ Ok (machine cfg))) → OnOk result (IsAtEnd left)
-      → IsToldAs told left (machine cfg)
-  told_as cfg is found exact all = record {
-    machine = cfg.limits;
-    short = cfg.short;
-    text = subst (λ (r : Result Config Stop). IfOk r (λ cfg. IfSome told (λ bytes. IsTextOf bytes (machine cfg)))) is found;
-    read = subst (λ (r : Result Config Stop). IfOk r (λ cfg. IfSome told (λ bytes. text_at bytes ≡ Ok (machine cfg)))) is exact;
-    all = subst (λ (r : Result Config Stop). OnOk r (IsAtEnd left)) is all;
-  }
-
-module _ (told left : Option (List ℕ)) (result : Result Read Stop) where
-  pub told_history :
-      (h : Read) → result ≡ Ok h → IfOk result (λ h. IsHistory (seen h)) →
-      IfOk result (λ h. IfSome told (λ bytes. IsHistoryTextOf bytes (seen h)))
-      → IfOk result (λ h. IfSome told (λ bytes. history_at bytes ≡ Ok (seen h))) → OnOk result (IsAtEnd left)
-      → IsToldHistory told left (seen h)
-  told_history h is ranges found exact all = record {
-    ranges = subst (λ (r : Result Read Stop). IfOk r (λ h. IsHistory (seen h))) is ranges;
-    text = subst (λ (r : Result Read Stop). IfOk r (λ h. IfSome told (λ bytes. IsHistoryTextOf bytes (seen h)))) is found;
-    read = subst (λ (r : Result Read Stop). IfOk r (λ h. IfSome told (λ bytes. history_at bytes ≡ Ok (seen h)))) is exact;
-    all = subst (λ (r : Result Read Stop). OnOk r (IsAtEnd left)) is all;
-  }
-
-module _ {X : Type 0} (i : Input) (told : Option (List ℕ)) (result : Result X Stop) where
-  pub stop_is : (before after : ℕ) (s : Stop) → result ≡ Err s → IfErr result (IsStop i told before after) → IsStop i told before after s
-  stop_is before after s is why = subst (λ (r : Result X Stop). IfErr r (IsStop i told before after)) is why
-
-  module _ (view : X → Told i) (only : IfTold i told (λ it. AcceptsAs it (read_as view result))) where
-    pub only_it : (x : X) → result ≡ Ok x → IfTold i told (λ it. view x ≡ it)
-    only_it x is =
-        told_more i told (λ it. AcceptsAs it (read_as view result)) (λ it. view x ≡ it)
-        (λ it h. subst (λ (r : Result X Stop). AcceptsAs it (read_as view r)) is h) only
-
-    pub not_refused : (s : Stop) → result ≡ Err s → IfTold i told (λ it. IsNoRefusal (stop_status s))
-    not_refused s is =
-        told_more i told (λ it. AcceptsAs it (read_as view result)) (λ it. IsNoRefusal (stop_status s))
-        (λ it h. by it s (subst (λ (r : Result X Stop). AcceptsAs it (read_as view r)) is h)) only
-      where
-        by : (it : Told i) (s : Stop) → AcceptsAs it (Err s) → IsNoRefusal (stop_status s)
-        by it (stop.Refused r) h = absurd h
-        by it stop.ReadFault h = inl refl
-        by it stop.OutOfMemory h = inr refl
+  summed_or_not n = did_or_not (command.Big n) source sink x x old new out tt (reads_nothing source x) refl
 
 -- ---- words
 
 -- a command that was read of the words is the one that they name
-module _ (read named : Result Command WordsFault) (c : Command) (is : read ≡ Ok c) where
-  it_is :
-      IfOk named (λ d. (read ≡ Ok d) ⊎ (read ≡ Err words.OutOfMemory)) → IfErr named (λ f. read ≡ Err words.BadWords) → named ≡ Ok c
-  it_is = by named
-    where
-      by :
-          (r : Result Command WordsFault) → IfOk r (λ d. (read ≡ Ok d) ⊎ (read ≡ Err words.OutOfMemory))
-          → IfErr r (λ f. read ≡ Err words.BadWords) → r ≡ Ok c
-      by (Ok d) (inl same) bad = sym same ∙ is
-      by (Ok d) (inr want) bad = absurd cc
-      by (Err f) good bad = absurd cc
+pub it_is :
+    (read named : Result Command WordsFault) (c : Command) → read ≡ Ok c
+    → IfOk named (λ d. (read ≡ Ok d) ⊎ (read ≡ Err words.OutOfMemory)) → IfErr named (λ f. read ≡ Err words.BadWords) → named ≡ Ok c
+it_is read named c is = by named
+  where
+    by :
+        (r : Result Command WordsFault) → IfOk r (λ d. (read ≡ Ok d) ⊎ (read ≡ Err words.OutOfMemory))
+        → IfErr r (λ f. read ≡ Err words.BadWords) → r ≡ Ok c
+    by (Ok d) (inl same) bad = sym same ∙ is
+    by (Ok d) (inr want) bad = absurd cc
+    by (Err f) good bad = absurd cc
 
-  pub named_by :
-      (P : Command → Type 0) → IfOk named (λ d. (read ≡ Ok d) ⊎ (read ≡ Err words.OutOfMemory))
-      → IfErr named (λ f. read ≡ Err words.BadWords) → P c → IfOk named P
-  named_by P good bad h = subst (λ (r : Result Command WordsFault). IfOk r P) (sym (it_is good bad)) h
+module _ {named : Result Command WordsFault} {c : Command} (is : named ≡ Ok c) where
+  pub named_by : (P : Command → Type 0) → P c → IfOk named P
+  named_by P h = subst (λ (r : Result Command WordsFault). IfOk r P) (sym is) h
 
-  pub not_bad :
-      (P : WordsFault → Type 0) → IfOk named (λ d. (read ≡ Ok d) ⊎ (read ≡ Err words.OutOfMemory))
-      → IfErr named (λ f. read ≡ Err words.BadWords) → IfErr named P
-  not_bad P good bad = subst (λ (r : Result Command WordsFault). IfErr r P) (sym (it_is good bad)) tt
+  pub not_bad : (P : WordsFault → Type 0) → IfErr named P
+  not_bad P = subst (λ (r : Result Command WordsFault). IfErr r P) (sym is) tt
 
 -- what holds of each command holds of the one that is named, if one is
 pub any_command : (named : Result Command WordsFault) (P : Command → Type 0) → ((c : Command) → P c) → IfOk named P

@@ -1,8 +1,7 @@
 -- what a history that was read and judged gives to a search for races, and what its answer says
-use Rattle.std.proofs.Common.{◌≡◌, ℕ, zero, suc, ◌<◌, true, List, [], ◌∷◌, refl, ap, subst, ◌∙◌, arith}
-use Rattle.std.specs.Prelude.{nat_lt, Option, None, IfNone}
+use Rattle.std.proofs.Common.{◌≡◌, ℕ, zero, suc, true, List, [], ◌∷◌, refl, ap, subst, ◌∙◌}
+use Rattle.std.specs.Prelude.{Option, None, IfNone}
 use Rattle.std.specs.List.{AllByRecursion}
-use Rattle.std.proofs.lemmas.Bool.Decides.{nat_tests}
 use Rattle.std.proofs.lemmas.Bool.{lt-ltb}
 use Rattle.plat_base.specs.Histories.{IsLegalMemory}
 use Rattle.plat_base.specs.Machine.{Machine}

@@ -1,6 +1,17 @@
 -- the coarse run of the schedule is that of the definition
-use Rattle.std.proofs.Common.{◌≡◌, ℕ, ◌+◌, ◌*◌, ◌≤◌, List, refl, sym, ap, subst, ◌∙◌}
-use Rattle.std.specs.Prelude.{None, Some}
+use Rattle.std.proofs.Common.{◌≡◌, ℕ, ◌+◌, ◌*◌, ◌≤◌, ⊎_elim, true, List, length, refl, sym, ap, subst, ◌∙◌, arith}
+use Rattle.std.specs.Prelude.{None}
+use Rattle.std.proofs.lemmas.Bool.{cases_eq, lt-ltb}
+use Rattle.std.proofs.lemmas.List.Elements.{filter_agree}
+use Rattle.plat_base.specs.Alike.{same_end}
+use Rattle.plat_base.specs.Ends.{ended_of, is_live}
+use Rattle.plat_base.specs.Pages.{numbers}
+use Rattle.plat_base.specs.declared.endings.End.{End}
+use Rattle.plat_base.specs.declared.endings.End.TheVariants as end
+use Rattle.plat_coarse.specs.CoarseSeen.{turned_of}
+use Rattle.plat_coarse.specs.declared.turns.Turned.TheVariants.{Ran}
+use Rattle.plat_coarse_laws.proofs.RunLaws.{turn-ends, turn-length, is_live-set_other}
+use Rattle.plat_laws.proofs.EndLaws.{is_live-below}
 use Rattle.plat_base.specs.Machine.{Machine}
 use Rattle.plat_base.specs.Coarse.{Coarse}
 use Rattle.plat_base.specs.Turns.{turn}
@@ -8,19 +19,36 @@ use Rattle.plat_base.specs.Schedule.{Scheduled, choose, live_processors, with_ch
 use Rattle.plat_base.specs.Verdicts.{Answer}
 use Rattle.plat_base.specs.declared.endings.Ended.{Ended}
 use Rattle.plat_base.specs.declared.items.Item.{Item}
-use Rattle.plat_coarse.specs.CoarseSeen.{CoarseSeen}
-use Rattle.plat_sched.specs.ScheduleSeen.{ScheduleSeen}
-use Rattle.plat_cmd.specs.Steps.{standing}
 use Rattle.plat_cmd.proofs.StepLemmas.{next_is, over_is}
 
--- the turn that was made is that of the actor that was chosen
-pub turned_is : {P : Type 0} (k : CoarseSeen P) (answer : Answer) (s after : ScheduleSeen) (next : Coarse) (q : ℕ)
-    → choose k.machine.schedule (live_processors k.machine k.run) s.chooser ≡ Some (q, after.chooser)
-    → next ≡ turn k.machine answer k.run q
-    → record { coarse = next; chooser = after.chooser } ≡ scheduled_turn k.machine answer (standing k s)
-turned_is k answer s after next q chosen is =
-    ap (λ (c : Coarse). record { coarse = c; chooser = after.chooser }) is
-    ∙ ap (with_choice k.machine answer (standing k s)) (sym chosen)
+-- ---- the live processors after a turn of one that did not end
+
+ran_is_cut : (e : End) → turned_of e ≡ Ran → same_end e end.Cut ≡ true
+ran_is_cut end.Halted h = grind (arith, h)
+ran_is_cut end.Trapped h = grind (arith, h)
+ran_is_cut end.Spent h = grind (arith, h)
+ran_is_cut end.NoFrames h = grind (arith, h)
+ran_is_cut end.Cut h = refl
+
+pub live_stay : (m : Machine) (answer : Answer) (s : Coarse) (q : ℕ) → is_live s.ends q ≡ true
+    → turned_of (ended_of (turn m answer s q).ends q).end ≡ Ran → live_processors m (turn m answer s q) ≡ live_processors m s
+live_stay m answer s q was ran = filter_agree (is_live after) (is_live s.ends) same (numbers m.nodes)
+  where
+    after : List Ended
+    after = (turn m answer s q).ends
+
+    now : is_live after q ≡ true
+    now =
+        rw (turn-length m answer s q, lt-ltb q (length s.ends) (is_live-below s.ends q was))
+        (ran_is_cut (ended_of (turn m answer s q).ends q).end ran)
+
+    same : (r : ℕ) → is_live after r ≡ is_live s.ends r
+    same r =
+        ⊎_elim (λ it. ap (is_live after) it ∙ (now ∙ sym (ap (is_live s.ends) it ∙ was)))
+        (λ other. ap (λ (ends : List Ended). is_live ends r) (turn-ends m answer s q) ∙ is_live-set_other s.ends q r _ other)
+        (cases_eq r q)
+
+-- ---- turn by turn
 
 -- where nobody is chosen a turn changes nothing
 still_is : (m : Machine) (answer : Answer) (x : Scheduled)

@@ -1,7 +1,7 @@
 -- no machine text and no history text is refused as too long, but for its number of bytes
-use Rattle.std.proofs.Common.{◌≡◌, ◌≢◌, ℕ, zero, suc, ◌==◌, ◌+◌, ◌<◌, ◌≤◌, Bool, true, false, ◌||◌, List, [], ◌∷◌, ◌++◌, length, refl, sym}
-use Rattle.std.proofs.Common.{◌∙◌, if◌then◌else◌, arith, subst, ap}
-use Rattle.std.specs.Prelude.{Option, Some, None, Result, Ok, Err, nat_lt, nat_le, bytes_eq, codes, position}
+use Rattle.std.proofs.Common.{◌≡◌, ℕ, zero, suc, ◌==◌, ◌+◌, ◌≤◌, Bool, true, false, List, [], ◌∷◌, ◌++◌, length}
+use Rattle.std.proofs.Common.{if◌then◌else◌, arith}
+use Rattle.std.specs.Prelude.{Option, Some, None, Result, Ok, Err, nat_lt, nat_le, bytes_eq, codes}
 use Rattle.std.specs.Fmt.{decimal}
 use Rattle.std.specs.List.{slice_split}
 use Rattle.std.proofs.lemmas.Bool.Decides.{nat_tests}
@@ -16,19 +16,19 @@ use Rattle.plat_base.specs.declared.guests.Instr.{Instr}
 use Rattle.plat_base.specs.declared.guests.Label.{Label}
 use Rattle.plat_base.specs.declared.items.Item.{Item}
 use Rattle.plat_base.specs.declared.endings.Ended.{Ended}
-use Rattle.plat_grammar.specs.Lines.{Word, number_of}
-use Rattle.plat_grammar.specs.Forms.{◌>>=◌, Row, Rest, Stop, refused, rows_of, row_length, row_at, word_at, first_word, read_as, one}
-use Rattle.plat_grammar.specs.Forms.{exactly, number_in, any_number, number, below, number_below, nothing, ◌·◌, made, maybe, listed, chosen}
-use Rattle.plat_grammar.specs.Forms.{choice, once, line_at, all_with, over}
-use Rattle.plat_grammar.specs.Drafts.{Draft, Target, register_below_16, numbered_register, register_of, register, name_of, target, address}
-use Rattle.plat_grammar.specs.Drafts.{two_registers, three_registers, set_line, move_line, add_line, sub_line, mul_line, and_line, shr_line}
+use Rattle.plat_grammar.specs.Lines.{number_of}
+use Rattle.plat_grammar.specs.Forms.{◌>>=◌, Row, Rest, Stop, refused, rows_of, row_at, word_at, first_word, read_as, one}
+use Rattle.plat_grammar.specs.Forms.{exactly, number_in, any_number, number, below, number_below, nothing, ◌·◌, made, maybe, listed}
+use Rattle.plat_grammar.specs.Forms.{over}
+use Rattle.plat_grammar.specs.Drafts.{Draft, Target, numbered_register, register_of, register, name_of, target, address}
+use Rattle.plat_grammar.specs.Drafts.{three_registers, set_line, move_line, add_line, sub_line, mul_line, and_line, shr_line}
 use Rattle.plat_grammar.specs.Drafts.{load_line, store_line, fadd_line, switch_line, print_line, jump_line, zero_line, less_line, halt_line}
 use Rattle.plat_grammar.specs.Drafts.{instructions, instruction_line, label_number, linked_to, linked_by, linked, code_from}
-use Rattle.plat_grammar.specs.FirstFault.{number_line, page_size, size_of, size_line, version_line, platinum_line, policies, policy_line}
-use Rattle.plat_grammar.specs.FirstFault.{random_line, schedules, schedule_line, header_at, other_than, other_node, distance_line}
+use Rattle.plat_grammar.specs.FirstFault.{number_line, page_size, size_of, size_line, version_line, policies, policy_line}
+use Rattle.plat_grammar.specs.FirstFault.{schedules, schedule_line, header_at, other_node, distance_line}
 use Rattle.plat_grammar.specs.FirstFault.{entry_line, init_line, distances_at, entries_at, inits_at, name_after, label_line, body_line}
 use Rattle.plat_grammar.specs.FirstFault.{ends_guest, body_from, body_at, guest_at, guests_from, end_line, front_at, machine_at, text_at}
-use Rattle.plat_grammar.specs.HistoryCanon.{History, point, colon, comma, most_items, most_history_bytes}
+use Rattle.plat_grammar.specs.HistoryCanon.{point, colon, comma, most_items, most_history_bytes}
 use Rattle.plat_grammar.specs.HistoryForms.{named, kinds, causes, actions, removals, messages, moments, rights, endings, heads, expected}
 use Rattle.plat_grammar.specs.HistoryForms.{part_below, cut, wanted, frame_of, translation_of, granted_of, above, copies_from, copies_of}
 use Rattle.plat_grammar.specs.HistoryForms.{dir_parts, dir_of, access_line, change_line, applied_line, item_kinds, item_line, ended_line}
@@ -317,21 +317,21 @@ fine-body_line drafts labels row =
     (fine_then (label_line (length drafts) labels w.1) _ (fine-label_line (length drafts) labels w.1) (λ l. tt))
     (fine_then (instruction_line (length drafts) row) _ (fine-instruction_line (length drafts) row) (λ d. tt)))
 
-keeps-body_from : (stop : Stop) → FineStop stop → (given : ℕ) (drafts : List Draft) (labels : List Label) (rows : List Row) → Keeps
-    (body_from stop given drafts labels rows)
+keeps-body_from : (stop : Stop) → FineStop stop → (drafts : List Draft) (labels : List Label) (rows : List Row) → Keeps
+    (body_from stop drafts labels rows)
 unfolding body_from
-keeps-body_from stop fine given drafts labels [] = missing-other stop fine
-keeps-body_from stop fine given drafts labels (row ∷ rows) =
+keeps-body_from stop fine drafts labels [] = missing-other stop fine
+keeps-body_from stop fine drafts labels (row ∷ rows) =
     line_then (first_word row) _ (fine_then (word_at row) _ (fine-word_at row) (λ w. tt))
     (λ w. keeps_if (ends_guest w.bytes) _ _ fine
     (line_then (body_line drafts labels row) _ (fine-body_line drafts labels row) (λ b. keeps-body_from stop fine
-    (given + row_length row) b.0 b.1 rows)))
+    b.0 b.1 rows)))
 
 keeps-guest_at : (rest : Rest) → FineStop rest.stop → Keeps (guest_at rest)
 unfolding guest_at
 keeps-guest_at rest fine =
     keeps_then _ _ (keeps-line_at (codes "guest") (number_line 0 7) (fine-number_line 0 7) rest fine) (λ space f.
-    keeps_then (body_at space.1) _ (keeps-body_from space.1.stop f space.1.given [] [] space.1.rows) (λ body f.
+    keeps_then (body_at space.1) _ (keeps-body_from space.1.stop f [] [] space.1.rows) (λ body f.
     line_then (code_from body.0.1 [] body.0.0) _ (fine-code_from body.0.1 [] body.0.0) (λ code. f)))
 
 keeps-guests_from : (count : ℕ) (seen : List Program) (rest : Rest) → FineStop rest.stop → Keeps (guests_from count seen rest)
@@ -367,30 +367,34 @@ keeps-machine_at rest fine =
     (λ front f. keeps_then (end_line (is_short front.0) front.1) _ (keeps-end_line (is_short front.0) front.1 f) (λ next f. f))
 
 -- only a text with more bytes than the most is too long
-pub text_at-too_long : (bytes : List ℕ) → length bytes ≤ most_bytes → text_at bytes ≡ Err (refused 0 0 why.TooLong) → ⊥
-unfolding text_at
-text_at-too_long bytes short is = by (nat_lt most_bytes (length bytes)) not_more is
+not_too_long : {A B : Type 0} (bytes : List ℕ) (most : ℕ) (told : Result (A × Rest) Refused) (of : A × Rest → B) → Keeps told
+    → length bytes ≤ most
+    → (if nat_lt most (length bytes) then Err (refused 0 0 why.TooLong) else (told >>= λ x. over x.1 >>= λ _. Ok (of x)))
+    ≡ Err (refused 0 0 why.TooLong) → ⊥
+not_too_long {A} {B} bytes most told of keeps short is = by (nat_lt most (length bytes)) not_more is
   where
-    not_more : nat_lt most_bytes (length bytes) ≡ false
+    not_more : nat_lt most (length bytes) ≡ false
     not_more = grind (arith, nat_tests)
 
-    rest : Rest
-    rest = rows_of 1 bytes
-
-    read : Result Machine Refused
-    read = machine_at rest >>= λ m. over m.1 >>= λ _. Ok m.0.0
+    read : Result B Refused
+    read = told >>= λ x. over x.1 >>= λ _. Ok (of x)
 
     fine : Fine read
-    fine = last_then (machine_at rest) _ (keeps-machine_at rest (fine-rows_of 1 bytes)) (λ m f. fine_then (over m.1) _ (fine-over m.1 f)
-        (λ x. tt))
+    fine = last_then told _ keeps (λ x f. fine_then (over x.1) _ (fine-over x.1 f) (λ y. tt))
 
-    none : (r : Result Machine Refused) → Fine r → r ≡ Err (refused 0 0 why.TooLong) → ⊥
+    none : (r : Result B Refused) → Fine r → r ≡ Err (refused 0 0 why.TooLong) → ⊥
     none (Ok x) h e = cc
     none (Err r) h e = h (cc)
 
     by : (more : Bool) → more ≡ false → (if more then Err (refused 0 0 why.TooLong) else read) ≡ Err (refused 0 0 why.TooLong) → ⊥
     by true h e = cc
     by false h e = none read fine e
+
+pub text_at-too_long : (bytes : List ℕ) → length bytes ≤ most_bytes → text_at bytes ≡ Err (refused 0 0 why.TooLong) → ⊥
+unfolding text_at
+text_at-too_long bytes short is =
+    let rows = rows_of 1 bytes in
+    not_too_long bytes most_bytes (machine_at rows) (λ m. m.0.0) (keeps-machine_at rows (fine-rows_of 1 bytes)) short is
 
 -- ---- the words of a history text
 
@@ -551,25 +555,6 @@ keeps-lines_at rest fine =
 
 pub history_at-too_long : (bytes : List ℕ) → length bytes ≤ most_history_bytes → history_at bytes ≡ Err (refused 0 0 why.TooLong) → ⊥
 unfolding history_at
-history_at-too_long bytes short is = by (nat_lt most_history_bytes (length bytes)) not_more is
-  where
-    not_more : nat_lt most_history_bytes (length bytes) ≡ false
-    not_more = grind (arith, nat_tests)
-
-    rest : Rest
-    rest = rows_of 1 bytes
-
-    read : Result History Refused
-    read = lines_at rest >>= λ h. over h.1 >>= λ _. Ok h.0
-
-    fine : Fine read
-    fine = last_then (lines_at rest) _ (keeps-lines_at rest (fine-rows_of 1 bytes)) (λ h f. fine_then (over h.1) _ (fine-over h.1 f)
-        (λ x. tt))
-
-    none : (r : Result History Refused) → Fine r → r ≡ Err (refused 0 0 why.TooLong) → ⊥
-    none (Ok x) h e = cc
-    none (Err r) h e = h (cc)
-
-    by : (more : Bool) → more ≡ false → (if more then Err (refused 0 0 why.TooLong) else read) ≡ Err (refused 0 0 why.TooLong) → ⊥
-    by true h e = cc
-    by false h e = none read fine e
+history_at-too_long bytes short is =
+    let rows = rows_of 1 bytes in
+    not_too_long bytes most_history_bytes (lines_at rows) (λ h. h.0) (keeps-lines_at rows (fine-rows_of 1 bytes)) short is

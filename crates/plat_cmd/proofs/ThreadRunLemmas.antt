@@ -1,12 +1,11 @@
 -- a run on threads: its merge has few items, breaks no rule, and every processor ended
 use Rattle.std.proofs.Common.{◌≡◌, ℕ, zero, suc, replicate, ◌<◌, ◌≤◌, true, false, Bool, List, [], ◌∷◌, length, refl, sym, ap, subst, ◌∙◌}
 use Rattle.std.proofs.Common.{arith}
-use Rattle.std.specs.Prelude.{Option, None, Some, Result, IsTrue, not, All, slice_get, slice_index_or, ◌||◌}
+use Rattle.std.specs.Prelude.{Option, None, Some, Result, IsTrue, not, All, slice_index_or, ◌||◌}
 use Rattle.std.specs.List.{list_any}
 use Rattle.std.specs.Option.{option_to_list, option_map_or}
 use Rattle.std.proofs.lemmas.Bool.{true≢false}
 use Rattle.std.proofs.lemmas.List.{length-append, length-replicate}
-use Rattle.std.proofs.lemmas.Option.{slice_get_within, get_or_from_slice_get}
 use Rattle.plat_base.specs.Alike.{same_end}
 use Rattle.plat_base.specs.Ends.{cut_at}
 use Rattle.plat_base.specs.Machine.{Machine}

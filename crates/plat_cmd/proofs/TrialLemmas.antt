@@ -1,16 +1,15 @@
 -- what is promised of a run under a given policy follows from what was done, or from why it stopped
-use Rattle.std.proofs.Common.{◌≡◌, ◌⊎◌, inl, inr, ℕ, ◌≤◌, true, false, refl, ap, subst, sym, ◌∙◌, ⊎_elim}
+use Rattle.std.proofs.Common.{◌≡◌, ◌⊎◌, inl, inr, true, false, refl, ap, ◌∙◌, ⊎_elim}
 use Rattle.plat_base.specs.Machine.{Machine}
 use Rattle.plat_base.specs.Runs.{GuestsEnd}
 use Rattle.plat_base.specs.Statuses.{status_of, is_silent}
 use Rattle.plat_base.specs.Verdicts.{Answer}
-use Rattle.plat_base.specs.declared.statuses.Status.TheVariants as status
 use Rattle.plat_io.specs.Streams.{added}
 use Rattle.plat_io.specs.declared.sinks.Sink.{Ghosts}
 use Rattle.plat_io.specs.declared.sources.Source.{Ghosts as Reader}
-use Rattle.plat_cmd.specs.Inputs.{machine_text, IsRead, IfTold, TakesText, too_long}
-use Rattle.plat_cmd.specs.Promises.{IsNoRefusal, IsQuiet, IsEnded}
-use Rattle.plat_cmd.specs.Steps.{IsStop, HasStopped, stop_status}
+use Rattle.plat_cmd.specs.Inputs.{machine_text}
+use Rattle.plat_cmd.specs.Promises.{IsQuiet, IsEnded}
+use Rattle.plat_cmd.specs.Steps.{HasStopped}
 use Rattle.plat_cmd.specs.Trials.{output_under, PromisesUnder}
 use Rattle.plat_cmd.specs.Works.{HasRun, ends_under, may_end, IsDoneWithMemory, LacksFrames}
 use Rattle.plat_cmd.specs.declared.words.Command.{Command}
@@ -21,7 +20,7 @@ use Rattle.plat_cmd.specs.declared.outcomes.Outcome.{Outcome}
 use Rattle.plat_cmd.specs.declared.outcomes.Stop.{Stop}
 use Rattle.plat_cmd.specs.declared.outcomes.Stop.TheVariants as stop
 use Rattle.plat_cmd.proofs.EndingLemmas.{run_status, silent_run, uncut_status}
-use Rattle.plat_cmd.proofs.PromiseLemmas.{may_run, may_be_limited, true_or_false, TakesShort, did_so, stopped_so}
+use Rattle.plat_cmd.proofs.PromiseLemmas.{may_run, may_be_limited, true_or_false, HasReadAll, HasReadNone, wants_memory, did_so, stopped_so}
 
 module _ {S K : Type 0} (answer : Answer) (o : Output) (source : Reader S) (sink : Ghosts K) (before after : S) (old new : K)
     (out : Outcome) where
@@ -65,21 +64,16 @@ module _ {S K : Type 0} (answer : Answer) (o : Output) (source : Reader S) (sink
       → sink.holds new ≡ added (sink.holds old) (output_under answer o m out.kept.items out.ran)
   ran_whole m ran quiet = ran.written.whole (λ fault. quiet (ran.written.risen fault))
 
-  pub did_under : (m : Machine) → IsRead machine_text source before after m → Ran m →
-      IfTold machine_text (source.left before) (λ other. m ≡ other)
-      → source.faults before ≤ source.faults after → TakesShort like source before after →
-      PromisesUnder answer o source sink before after old new out
-  did_under m read ran only count short =
-      did_so like (HasRun answer grain.Coarse o sink) (output_under answer o) source sink before after old new out m read ran
-      (ran_is_told m ran) (ran_end m ran)
-      (λ other done quiet. record { ends = λ guests. ran_comes other done quiet guests; whole = λ told. ran_whole other done quiet }) only
-      count short
-
-  pub stopped_under : (s : Stop) → IsStop machine_text (source.left before) (source.faults before) (source.faults after) s →
-      HasStopped s old new out
-      → IfTold machine_text (source.left before) (λ other. IsNoRefusal (stop_status s)) → source.faults before ≤ source.faults after
-      → TakesText machine_text (source.left before) (source.left after) (s ≡ stop.Refused too_long)
+  pub stopped_under : (s : Stop) → HasReadNone machine_text source before after s → HasStopped s old new out
       → PromisesUnder answer o source sink before after old new out
-  stopped_under s is has free count taken =
-      stopped_so like (HasRun answer grain.Coarse o sink) (output_under answer o) source sink before after old new out s is tt has free
-      count taken
+  stopped_under = stopped_so like (HasRun answer grain.Coarse o sink) (output_under answer o) source sink before after old new out
+
+  -- the run was made of the machine that was read, or there was no memory for it
+  pub did_or_not_under : (m : Machine) → HasReadAll machine_text source before after m → Ran m ⊎ HasStopped stop.OutOfMemory old new out
+      → PromisesUnder answer o source sink before after old new out
+  did_or_not_under m all =
+      ⊎_elim
+      (λ ran. did_so like (HasRun answer grain.Coarse o sink) (output_under answer o) source sink before after old new out m all ran
+      (ran_is_told m ran) (ran_end m ran)
+      (λ other done quiet. record { ends = λ guests. ran_comes other done quiet guests; whole = λ told. ran_whole other done quiet }))
+      (λ has. stopped_under stop.OutOfMemory (wants_memory source machine_text before after m all tt) has)

@@ -8,7 +8,7 @@ ghost use Rattle.plat_cmd.specs.Works.{history_of, ends_of};
 ghost use Rattle.plat_cmd.specs.declared.words.Grain.TheVariants as grains;
 
 use plat_base::{Config, Finished, OutOfMemory, Policy};
-use plat_coarse::{Coarse, most_turns};
+use plat_coarse::{Coarse, Turned, most_turns};
 use plat_sched::Schedule;
 use std::alloc::Global;
 
@@ -25,21 +25,26 @@ fn live_word<P: Policy>(coarse: &Coarse<P>) -> u32
     live
 }
 
-/// The turn of the processor that the schedule has next, and whether there was one. Where nobody is live, nothing changes.
-fn next_turn<P: Policy>(coarse: &mut Coarse<P>, schedule: &mut Schedule) -> bool
+/// The turn of the processor that the schedule has next, and whether there was one. Where nobody is live, nothing changes. The
+/// word of the live processors is made anew only where the processor ended.
+fn next_turn<P: Policy>(coarse: &mut Coarse<P>, schedule: &mut Schedule, live: &mut u32) -> bool
     requires plan { schedule.old.turns ≡ coarse.old.machine.schedule }
+    requires live { actors_of live.old ≡ live_processors coarse.old.machine coarse.old.run }
     ensures machine { coarse.new.machine ≡ coarse.old.machine }
     ensures policy { coarse.new.policy ≡ coarse.old.policy }
     ensures plan { schedule.new.turns ≡ schedule.old.turns }
+    ensures live { actors_of live.new ≡ live_processors coarse.new.machine coarse.new.run }
     ensures turn { standing coarse.new schedule.new
         ≡ scheduled_turn coarse.old.machine (P.answer coarse.old.policy) (standing coarse.old schedule.old) }
     ensures over { let live = live_processors coarse.old.machine coarse.old.run
         in result ≡ false → choose coarse.old.machine.schedule live schedule.old.chooser ≡ None }
 {
-    let live = live_word(coarse);
-    match schedule.next(live) {
+    match schedule.next(*live) {
         Some(q) => {
-            coarse.turn(q);
+            match coarse.turn(q) {
+                Turned::Ran => {}
+                Turned::Ended(_) => *live = live_word(coarse),
+            }
             true
         }
         None => false,
@@ -54,8 +59,9 @@ fn make_turns<P: Policy>(coarse: &mut Coarse<P>, schedule: &mut Schedule, turns:
     ensures turns { standing coarse.new schedule.new
         ≡ scheduled coarse.old.machine (P.answer coarse.old.policy) turns }
 {
+    let mut live = live_word(coarse);
     for _turn in 0..turns {
-        if !next_turn(coarse, schedule) {
+        if !next_turn(coarse, schedule, &mut live) {
             return;
         }
     }

@@ -35,21 +35,26 @@ fn live_word(fine: &Fine) -> u32
     live
 }
 
-/// The event of the actor that the schedule has next, and whether there was one. Where nobody is live, nothing changes.
-fn next_event(fine: &mut Fine, schedule: &mut Schedule) -> bool
+/// The event of the actor that the schedule has next, and whether there was one. Where nobody is live, nothing changes. The
+/// word of the live actors is made anew only where the actor ended.
+fn next_event(fine: &mut Fine, schedule: &mut Schedule, live: &mut u32) -> bool
     requires plan { schedule.old.turns ≡ fine.old.machine.schedule }
     requires actors { length fine.old.fine.privates ≡ actor_count fine.old.machine }
+    requires live { actors_of live.old ≡ live_actors fine.old.fine.privates }
     ensures machine { fine.new.machine ≡ fine.old.machine }
     ensures plan { schedule.new.turns ≡ schedule.old.turns }
+    ensures live { actors_of live.new ≡ live_actors fine.new.fine.privates }
     ensures event { standing_fine fine.new schedule.new
         ≡ own_event fine.old.machine (standing_fine fine.old schedule.old) }
     ensures over { let live = live_actors fine.old.fine.privates
         in result ≡ false → choose fine.old.machine.schedule live schedule.old.chooser ≡ None }
 {
-    let live = live_word(fine);
-    match schedule.next(live) {
+    match schedule.next(*live) {
         Some(actor) => {
             fine.event(actor);
+            if !fine.live(actor) {
+                *live = live_word(fine);
+            }
             true
         }
         None => false,
@@ -63,8 +68,9 @@ fn make_events(fine: &mut Fine, schedule: &mut Schedule, events: u32)
     ensures machine { fine.new.machine ≡ fine.old.machine }
     ensures events { standing_fine fine.new schedule.new ≡ after_events fine.old.machine events }
 {
+    let mut live = live_word(fine);
     for _event in 0..events {
-        if !next_event(fine, schedule) {
+        if !next_event(fine, schedule, &mut live) {
             return;
         }
     }

@@ -30,9 +30,10 @@ use Rattle.plat_base.specs.declared.items.Item.{Item}
 use Rattle.plat_base.specs.declared.items.Translation.{Translation}
 use Rattle.plat_base.specs.declared.endings.End.TheVariants as end
 use Rattle.plat_coarse_laws.proofs.TurnItemLaws as turn_items
-use Rattle.plat_laws.proofs.GuestLaws.{guest_run-next, slice_get-append_at, values_of-append}
+use Rattle.plat_laws.proofs.GuestLaws.{guest_run-next, found-load, found-add}
 use Rattle.plat_laws.proofs.EndLaws.{values_of-no_operations}
 use Rattle.plat_coarse.specs.Acted.{value_found, wants_more}
+use Rattle.plat_laws.proofs.ItemLaws.{values_of-append}
 
 -- ---- the values that a turn gives its guest
 
@@ -82,23 +83,15 @@ module _ (m : Machine) (answer : Answer) (s : Coarse) (q now : ℕ) where
 
 -- ---- the state after one more turn on those values
 
-state-load : (m : Machine) (q : ℕ) (vs : List ℕ) (r : GuestRun) (sp a o v : ℕ) → r.used ≡ length vs
-    → (guest_does m q (vs ++ v ∷ []) r (want.Access kind.Load sp a o)).state ≡ guest_after m q r.state v
-state-load m q vs r sp a o v used = rw (slice_get-append_at vs v [] r.used used) refl
-
-state-add : (m : Machine) (q : ℕ) (vs : List ℕ) (r : GuestRun) (sp a o v : ℕ) → r.used ≡ length vs
-    → (guest_does m q (vs ++ v ∷ []) r (want.Access kind.Add sp a o)).state ≡ guest_after m q r.state v
-state-add m q vs r sp a o v used = rw (slice_get-append_at vs v [] r.used used) refl
-
 pub state-does : (m : Machine) (q : ℕ) (items : List Item) (vs : List ℕ) (r : GuestRun) (w : Want) → r.used ≡ length vs →
     wants_more w ≡ true
     → (guest_does m q (vs ++ values_wanted m items w) r w).state ≡ guest_after m q r.state (value_found m items w)
 state-does m q items vs r want.Local used more = refl
 state-does m q items vs r (want.Access kind.Load sp a o) used more =
-    state-load m q vs r sp a o (flat_value m items (reach_of m kind.Load sp a o).page (reach_of m kind.Load sp a o).word) used
+    found-load m q vs r sp a o (flat_value m items (reach_of m kind.Load sp a o).page (reach_of m kind.Load sp a o).word) used
 state-does m q items vs r (want.Access kind.Store sp a o) used more = refl
 state-does m q items vs r (want.Access kind.Add sp a o) used more =
-    state-add m q vs r sp a o (flat_value m items (reach_of m kind.Add sp a o).page (reach_of m kind.Add sp a o).word) used
+    found-add m q vs r sp a o (flat_value m items (reach_of m kind.Add sp a o).page (reach_of m kind.Add sp a o).word) used
 state-does m q items vs r (want.Switch space) used more = refl
 state-does m q items vs r (want.Print value) used more = refl
 state-does m q items vs r want.Halted used more = absurd (cc)

@@ -26,7 +26,7 @@ use Rattle.plat_base.specs.declared.items.Item.{Item}
 use Rattle.plat_base.specs.declared.items.Item.TheVariants as item
 use Rattle.plat_chronicle.specs.Chronicle.{Chronicled, HasAdded, HasRoom}
 use Rattle.plat_chronicle.proofs.ChronicleLemmas.{HasAdded-more, HasRoom-more}
-use Rattle.plat_chronicle.proofs.EntryLemmas.{entries_of_page-apart, entries_of_space-apart}
+use Rattle.plat_base.proofs.EntryLists.{entries_of_page-apart, entries_of_page-below, entries_of_space-apart, entries_of_space-below}
 use Rattle.plat_coarse.proofs.NumberLemmas.{IsByParts, by_parts-more, by_parts-length}
 
 -- ---- items that leave a translation as it is
@@ -216,17 +216,29 @@ pub interrupts-sent : (m : Machine) (items : List Item) (ends : List Ended) (ini
     ≡ sent_for m items ends initiator removed (entries_of_page m page)
 interrupts-sent m items ends initiator page removed some = rw some refl
 
--- at a place among the page's entries
-module _ (before now : Chronicled) (ends : List Ended) (initiator page : ℕ) (removed : Removed) (place e : ℕ)
-    (h : HasAdded before now (sent_before before.machine before.items ends initiator page removed place))
-    (inside : place < length (entries_of_page before.machine page))
-    (at : get_or (entries_of_page before.machine page) place 0 ≡ e) where
+-- at a place among the page's entries, where the messages for those before it are sent
+pub record IsAtEntry (before now : Chronicled) (ends : List Ended) (initiator page : ℕ) (removed : Removed) (place e : ℕ) : Type 0 where
+  pub sent : HasAdded before now (sent_before before.machine before.items ends initiator page removed place)
+  pub inside : place < length (entries_of_page before.machine page)
+  pub stands : get_or (entries_of_page before.machine page) place 0 ≡ e
+
+module _ {before now : Chronicled} {ends : List Ended} {initiator page : ℕ} {removed : Removed} {place e : ℕ}
+    (here : IsAtEntry before now ends initiator page removed place e) where
+  pub entry_at_within : e < length now.machine.entries
+  entry_at_within =
+      omega (
+        arith,
+        entries_of_page-below before.machine page place 0 here.inside,
+        here.stands,
+        ap (λ (m : Machine). length m.entries) here.sent.machine,
+      )
+
   others : list_all (is_other e) (take place (entries_of_page before.machine page)) ≡ true
-  others = rw at at (entries_of_page-apart before.machine page place 0 inside)
+  others = rw here.stands at (entries_of_page-apart before.machine page place 0 here.inside)
 
   row-now : row now.machine (run now.items ends) initiator removed e (numbers now.machine.nodes)
       ≡ sent_below before.machine before.items ends initiator removed e before.machine.nodes
-  row-now = rw (h.machine, h.items)
+  row-now = rw (here.sent.machine, here.sent.items)
       (row-sent_for before.machine before.items ends initiator removed (take place (entries_of_page before.machine page)) e others)
 
   sent_before-now : sent_before before.machine before.items ends initiator page removed (place + 1)
@@ -235,8 +247,8 @@ module _ (before now : Chronicled) (ends : List Ended) (initiator page : ℕ) (r
   sent_before-now =
       rw row-now
       (ap (sent_for before.machine before.items ends initiator removed)
-      (take_more (entries_of_page before.machine page) place 0 inside
-      ∙ ap (λ (k : ℕ). take place (entries_of_page before.machine page) ++ k ∷ []) at)
+      (take_more (entries_of_page before.machine page) place 0 here.inside
+      ∙ ap (λ (k : ℕ). take place (entries_of_page before.machine page) ++ k ∷ []) here.stands)
       ∙ sent_for-more before.machine before.items ends initiator removed (take place (entries_of_page before.machine page)) e)
 
   sent_before-length : length (sent_before before.machine before.items ends initiator page removed (place + 1))
@@ -259,15 +271,16 @@ module _ (before now : Chronicled) (ends : List Ended) (initiator page : ℕ) (r
       let sent = sent_before before.machine before.items ends initiator page removed in
       HasRoom-more before now (sent place) (row now.machine (run now.items ends) initiator removed e (numbers now.machine.nodes))
       (sent (place + 1)) (sent_for before.machine before.items ends initiator removed (entries_of_page before.machine page))
-      (rw (interrupts-sent before.machine before.items ends initiator page removed some) at room) h sent_before-now sent_before-length
+      (rw (interrupts-sent before.machine before.items ends initiator page removed some) at room) here.sent sent_before-now
+      sent_before-length
 
-  pub HasAdded-page : (after : Chronicled) →
+  pub HasAdded-page : {after : Chronicled} →
       HasAdded now after (row now.machine (run now.items ends) initiator removed e (numbers now.machine.nodes)) →
       HasAdded before after (sent_before before.machine before.items ends initiator page removed (place + 1))
-  HasAdded-page after k =
+  HasAdded-page {after} more =
       let sent = sent_before before.machine before.items ends initiator page removed in
       HasAdded-more before now after (sent place) (row now.machine (run now.items ends) initiator removed e (numbers now.machine.nodes))
-      (sent (place + 1)) h k sent_before-now
+      (sent (place + 1)) here.sent more sent_before-now
 
 -- ---- the messages that wait for a switch
 
@@ -298,21 +311,33 @@ module _ (m : Machine) (items : List Item) (q space : ℕ) where
   abbrev pub told_before : (place : ℕ) → List Item
   told_before place = told_for (take place (entries_of_space m space))
 
--- at a place among the space's entries
-module _ (before now : Chronicled) (q space place e : ℕ) (h : HasAdded before now (told_before before.machine before.items q space place))
-    (inside : place < length (entries_of_space before.machine space))
-    (at : get_or (entries_of_space before.machine space) place 0 ≡ e) where
+-- at a place among the space's entries, where the switch and the messages for those before it are told
+pub record IsAtPlace (before now : Chronicled) (q space place e : ℕ) : Type 0 where
+  pub told : HasAdded before now (told_before before.machine before.items q space place)
+  pub inside : place < length (entries_of_space before.machine space)
+  pub stands : get_or (entries_of_space before.machine space) place 0 ≡ e
+
+module _ {before now : Chronicled} {q space place e : ℕ} (here : IsAtPlace before now q space place e) where
+  pub entry_within : e < length now.machine.entries
+  entry_within =
+      omega (
+        arith,
+        entries_of_space-below before.machine space place 0 here.inside,
+        here.stands,
+        ap (λ (m : Machine). length m.entries) here.told.machine,
+      )
+
   owed-now : owed now.machine now.items q e ≡ owed before.machine before.items q e
-  owed-now = rw (h.machine, h.items)
+  owed-now = rw (here.told.machine, here.told.items)
       (owed-told_for before.machine before.items q space (take place (entries_of_space before.machine space)) e
-      (rw at at (entries_of_space-apart before.machine space place 0 inside)))
+      (rw here.stands at (entries_of_space-apart before.machine space place 0 here.inside)))
 
   told_before-more : told_before before.machine before.items q space (place + 1)
       ≡ told_before before.machine before.items q space place ++ filter_map (activation before.machine before.items q) (e ∷ [])
   told_before-more =
       ap (told_for before.machine before.items q space)
-      (take_more (entries_of_space before.machine space) place 0 inside
-      ∙ ap (λ (k : ℕ). take place (entries_of_space before.machine space) ++ k ∷ []) at)
+      (take_more (entries_of_space before.machine space) place 0 here.inside
+      ∙ ap (λ (k : ℕ). take place (entries_of_space before.machine space) ++ k ∷ []) here.stands)
       ∙ told_for-more before.machine before.items q space (take place (entries_of_space before.machine space)) e
 
   told_before-owed : (msg : Message) → owed now.machine now.items q e ≡ Some msg →
@@ -337,19 +362,19 @@ module _ (before now : Chronicled) (q space place e : ℕ) (h : HasAdded before 
         length-append (waiting (take (place + 1) es)) (waiting (drop (place + 1) es)),
       )
 
-  pub HasRoom-owed : (msg : Message) → owed now.machine now.items q e ≡ Some msg →
+  pub HasRoom-owed : {msg : Message} → owed now.machine now.items q e ≡ Some msg →
       HasRoom before (switch_items before.machine before.items q space) → HasRoom now (activation_of q e msg ∷ [])
-  HasRoom-owed msg owes room =
+  HasRoom-owed {msg} owes room =
       let told = told_before before.machine before.items q space in
       HasRoom-more before now (told place) (activation_of q e msg ∷ []) (told (place + 1))
-      (switch_items before.machine before.items q space) room h (told_before-owed msg owes) told_before-length
+      (switch_items before.machine before.items q space) room here.told (told_before-owed msg owes) told_before-length
 
-  pub HasAdded-owed : (after : Chronicled) (msg : Message) → owed now.machine now.items q e ≡ Some msg →
+  pub HasAdded-owed : {after : Chronicled} {msg : Message} → owed now.machine now.items q e ≡ Some msg →
       HasAdded now after (activation_of q e msg ∷ []) → HasAdded before after (told_before before.machine before.items q space (place + 1))
-  HasAdded-owed after msg owes k =
+  HasAdded-owed {after} {msg} owes sent =
       let told = told_before before.machine before.items q space in
-      HasAdded-more before now after (told place) (activation_of q e msg ∷ []) (told (place + 1)) h k (told_before-owed msg owes)
+      HasAdded-more before now after (told place) (activation_of q e msg ∷ []) (told (place + 1)) here.told sent (told_before-owed msg owes)
 
   pub HasAdded-none_owed : owed now.machine now.items q e ≡ None →
       HasAdded before now (told_before before.machine before.items q space (place + 1))
-  HasAdded-none_owed owes = rw (told_before-none owes) h
+  HasAdded-none_owed owes = rw (told_before-none owes) here.told

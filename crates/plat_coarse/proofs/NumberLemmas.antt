@@ -1,11 +1,11 @@
 -- the numbers below a bound, one more at a time, and the first of them that passes a test
-use Rattle.std.proofs.Common.{◌≡◌, ℕ, zero, suc, ◌+◌, ◌-◌, ◌<◌, ◌≤◌, Bool, true, false, ◌||◌, List, [], ◌∷◌, ◌++◌, length, Some, None, refl}
+use Rattle.std.proofs.Common.{◌≡◌, ℕ, zero, suc, ◌+◌, ◌-◌, ◌<◌, ◌≤◌, Bool, true, false, ◌||◌, List, [], ◌∷◌, ◌++◌, length, Some}
 use Rattle.std.proofs.Common.{ap, ◌∙◌, inl, inr, arith, length-append}
 use Rattle.std.specs.Prelude.{find}
 use Rattle.std.specs.List.{list_any, range_with_len}
 use Rattle.std.proofs.lemmas.Bool.{cases_eq}
 use Rattle.plat_base.specs.Pages.{numbers}
-use Rattle.plat_base.proofs.ListLemmas.{find-range_none, range_with_len-split, numbers-more, list_any-push}
+use Rattle.plat_base.proofs.ListLemmas.{range_with_len-split, numbers-more, list_any-push}
 
 -- the numbers below a bound, and the others below a higher one
 numbers-split : (n k : ℕ) → n ≤ k → numbers k ≡ numbers n ++ range_with_len n (k - n)

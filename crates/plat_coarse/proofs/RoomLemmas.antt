@@ -1,6 +1,5 @@
 -- the limits that bound a run's history
-use Rattle.std.proofs.Common.{ℕ, ◌*◌, ◌≤◌, arith}
-use Rattle.std.proofs.Math.Nat.{mul-le-mul_left, mul_comm}
+use Rattle.std.proofs.Common.{◌*◌, ◌≤◌}
 use Rattle.std.proofs.lemmas.Nat.{mul-le}
 use Rattle.plat_base.specs.Seen.{machine}
 use Rattle.plat_base.specs.declared.configs.Config.{Config}

@@ -28,7 +28,7 @@ use Rattle.plat_laws.proofs.EndLaws.{is_live-below}
 use Rattle.plat_coarse.specs.declared.acts.Acted.{Acted}
 use Rattle.plat_coarse.specs.Acted.{value_found, end_within}
 use Rattle.plat_coarse.specs.Advanced.{no_guest, guests_after}
-use Rattle.plat_chronicle.specs.Chronicle.{Chronicled}
+use Rattle.plat_chronicle.specs.Chronicle.{Chronicled, HasAdded, HasRoom}
 use Rattle.plat_coarse.specs.CoarseSeen.{RunsOn}
 use Rattle.plat_coarse.specs.Running.{state_of}
 use Rattle.plat_coarse.proofs.GuestStateLemmas.{guest_now-other, guest_now-own}
@@ -48,11 +48,42 @@ goes_on m turns end.Spent h = absurd (cc)
 goes_on m turns end.NoFrames h = absurd (cc)
 goes_on m turns end.Cut h = refl
 
-pub settled_length : (ends ends_now : List Ended) (q : ℕ) (e : Ended) → ends_now ≡ slice_set ends q e → length ends_now ≡ length ends
-settled_length ends ends_now q e is = ap length is ∙ length-set ends q e
+-- a turn that is to be made: the run as the engine keeps it, and a processor that is live
+pub record Turning : Type 0 where
+  pub chronicle : Chronicled
+  pub answer : Answer
+  pub ends : List Ended
+  pub guests : List GuestSeen
+  pub time : ℕ
+  pub processor : ℕ
+  pub runs : RunsOn chronicle answer ends guests time
+  pub live : is_live ends processor ≡ true
 
-module _ (k : Chronicled) (answer : Answer) (ends : List Ended) (guests : List GuestSeen) (t q : ℕ) (runs : RunsOn k answer ends guests t)
-    (live : is_live ends q ≡ true) where
+module _ (turning : Turning) where
+  abbrev k : Chronicled
+  k = turning.chronicle
+
+  abbrev answer : Answer
+  answer = turning.answer
+
+  abbrev ends : List Ended
+  ends = turning.ends
+
+  abbrev guests : List GuestSeen
+  guests = turning.guests
+
+  abbrev t : ℕ
+  t = turning.time
+
+  abbrev q : ℕ
+  q = turning.processor
+
+  abbrev runs : RunsOn k answer ends guests t
+  runs = turning.runs
+
+  abbrev live : is_live ends q ≡ true
+  live = turning.live
+
   abbrev pub run_now : Coarse
   run_now = state_of k ends
 
@@ -65,8 +96,11 @@ module _ (k : Chronicled) (answer : Answer) (ends : List Ended) (guests : List G
   made_now-in : made_now ≡ made_in k.machine answer run_now q
   made_now-in = ap (λ (now : ℕ). made_by k.machine answer run_now q (now + 1) want_now) runs.time
 
-  pub node_below : q < k.machine.nodes
+  node_below : q < k.machine.nodes
   node_below = omega (arith, is_live-below ends q live, runs.sound.count)
+
+  pub node_within : (slice_index_or guests q no_guest).node < k.machine.nodes
+  node_within = omega (arith, runs.nodes q node_below, node_below)
 
   pub tick_below : t < 524288
   tick_below =
@@ -80,7 +114,7 @@ module _ (k : Chronicled) (answer : Answer) (ends : List Ended) (guests : List G
   turns_below = runs.sound.left q live
 
   -- what the guest that was read wants
-  pub guest_wants : (g : GuestSeen) → g ≡ slice_index_or guests q g → wanted_by k.machine g ≡ want_now
+  guest_wants : (g : GuestSeen) → g ≡ slice_index_or guests q g → wanted_by k.machine g ≡ want_now
   guest_wants g is =
       let inside : q < length guests = omega (arith, node_below, runs.guests) in
       let here : g ≡ slice_index_or guests q no_guest = is ∙ get_or_default guests q g no_guest inside in
@@ -103,55 +137,11 @@ module _ (k : Chronicled) (answer : Answer) (ends : List Ended) (guests : List G
       let same = ap (λ (x : Made). length x.items) made_now-in in
       omega (arith, longer, turned_room, same, length-append k.items (made_in k.machine answer run_now q).items)
 
-  pub made_spare : length made_now.items ≤ k.spare
+  made_spare : length made_now.items ≤ k.spare
   made_spare = omega (arith, made_length, runs.room)
 
-  pub made_few : length k.items + length made_now.items ≤ 2621440
+  made_few : length k.items + length made_now.items ≤ 2621440
   made_few = omega (arith, made_length, room-most k.machine runs.machine)
-
-  -- ---- after the turn proper, before the pass
-
-  module _ (next : Chronicled) (acted : Acted) (ends_now : List Ended) (machine : next.machine ≡ k.machine)
-      (items : next.items ≡ k.items ++ made_now.items) (spare : next.spare + length made_now.items ≡ k.spare)
-      (how : acted.end ≡ made_now.end)
-      (ended : ends_now ≡ slice_set ends q
-      (record { end = end_within k.machine.budget ((ended_of ends q).turns + 1) acted.end; turns = (ended_of ends q).turns + 1 })) where
-    ends_are : ends_now ≡ (with_made k.machine run_now q made_now).ends
-    ends_are =
-        ended
-        ∙ (ap (λ (e : End). slice_set ends q
-        (record { end = end_within k.machine.budget ((ended_of ends q).turns + 1) e; turns = (ended_of ends q).turns + 1 })) how
-        ∙ ap (λ (e : End). slice_set ends q (record { end = e; turns = (ended_of ends q).turns + 1 }))
-        (end_within-after k.machine ((ended_of ends q).turns + 1) made_now.end))
-
-    pub state_made : state_of next ends_now ≡ with_made k.machine run_now q made_now
-    state_made =
-        ap (λ is. record { history = is; ends = ends_now }) items
-        ∙ ap (λ es. record { history = k.items ++ made_now.items; ends = es }) ends_are
-
-    pub made_is_sound : Sound next.machine answer (state_of next ends_now)
-    made_is_sound =
-        let P : Machine → Type 0 = λ m. Sound m answer (state_of next ends_now) in
-        let Q : Coarse → Type 0 = λ s. Sound k.machine answer s in
-        subst P (sym machine)
-        (subst Q (sym state_made) (with_made_sound k.machine answer run_now q (t + 1) runs.machine runs.sound live))
-
-    pub passed_is : daemon next.machine answer (t + 1) (state_of next ends_now) ≡ turn k.machine answer run_now q
-    passed_is =
-        ap (λ (m : Machine). daemon m answer (t + 1) (state_of next ends_now)) machine
-        ∙ (ap (daemon k.machine answer (t + 1)) state_made
-        ∙ ap (λ (tick : ℕ). daemon k.machine answer (tick + 1)
-        (with_made k.machine run_now q (made_by k.machine answer run_now q (tick + 1) want_now))) runs.time)
-
-    pub passed_length : length (daemon next.machine answer (t + 1) (state_of next ends_now)).history ≤ length next.items + next.spare
-    passed_length =
-        let same = ap (λ (s : Coarse). length s.history) passed_is in
-        omega (arith, same, turned_room, runs.room, ap length items, length-append k.items made_now.items, spare)
-
-    pub passed_few : length (daemon next.machine answer (t + 1) (state_of next ends_now)).history ≤ 2621440
-    passed_few =
-        let same = ap (λ (s : Coarse). length s.history) passed_is in
-        omega (arith, same, turned_room, room-most k.machine runs.machine)
 
   -- ---- the guests after the turn
 
@@ -231,7 +221,7 @@ module _ (k : Chronicled) (answer : Answer) (ends : List Ended) (guests : List G
   ]
 
   -- what the engine keeps after the turn
-  pub RunsOn-turn : (acted : Acted) (last : Chronicled) (ends_now : List Ended) → last.machine ≡ k.machine → acted.end ≡ made_now.end
+  RunsOn-turn : (acted : Acted) (last : Chronicled) (ends_now : List Ended) → last.machine ≡ k.machine → acted.end ≡ made_now.end
       → acted.value ≡ value_found k.machine k.items want_now → state_of last ends_now ≡ turn k.machine answer run_now q
       → last.spare + length last.items ≡ k.spare + length k.items →
       RunsOn last answer ends_now (guests_after k.machine guests q acted) (t + 1)
@@ -265,32 +255,115 @@ module _ (k : Chronicled) (answer : Answer) (ends : List Ended) (guests : List G
         room = subst (λ (m : Machine). room m ≤ length last.items + last.spare) back (omega (arith, runs.room, spare));
       }
 
-  -- ---- from what the calls of a turn say
+  -- ---- what the calls of a turn say
 
-  pub wants : (m : Machine) (g : GuestSeen) (w : Want) → m ≡ k.machine → g ≡ slice_index_or guests q g → w ≡ wanted_by m g → w ≡ want_now
-  wants m g w same is reads = reads ∙ (ap (λ (x : Machine). wanted_by x g) same ∙ guest_wants g is)
+  pub wants : {m : Machine} {g : GuestSeen} {w : Want} → m ≡ k.machine → g ≡ slice_index_or guests q g → w ≡ wanted_by m g → w ≡ want_now
+  wants {g = g} same is reads = reads ∙ (ap (λ (x : Machine). wanted_by x g) same ∙ guest_wants g is)
 
   abbrev pub made_at : List Ended → Want → Made
   made_at es w = made_by k.machine answer (state_of k es) q (t + 1) w
 
-  pub made_at-now : (es : List Ended) (w : Want) → es ≡ ends → w ≡ want_now → made_at es w ≡ made_now
+  made_at-now : (es : List Ended) (w : Want) → es ≡ ends → w ≡ want_now → made_at es w ≡ made_now
   made_at-now es w same is = ap (λ (x : List Ended). made_at x w) same ∙ ap (λ (x : Want). made_at ends x) is
 
-  pub spare_at : (es : List Ended) (w : Want) → es ≡ ends → w ≡ want_now → length (made_at es w).items ≤ k.spare
-  spare_at es w same is = subst (λ (x : Made). length x.items ≤ k.spare) (sym (made_at-now es w same is)) made_spare
+  pub room_at : {es : List Ended} {w : Want} → es ≡ ends → w ≡ want_now → HasRoom k (made_at es w).items
+  room_at {es} {w} same is =
+      subst (λ (x : Made). HasRoom k x.items) (sym (made_at-now es w same is)) (record { spare = made_spare; few = made_few })
 
-  pub few_at : (es : List Ended) (w : Want) → es ≡ ends → w ≡ want_now → length k.items + length (made_at es w).items ≤ 2621440
-  few_at es w same is = subst (λ (x : Made). length k.items + length x.items ≤ 2621440) (sym (made_at-now es w same is)) made_few
+  -- what the turn proper did: its end, the word that it found, and what it added
+  pub record HasActed (acted : Acted) (after : Chronicled) : Type 0 where
+    pub end : acted.end ≡ made_now.end
+    pub value : acted.value ≡ value_found k.machine k.items want_now
+    pub added : HasAdded k after made_now.items
 
-  pub ended_at : (budget : ℕ) (acted : Acted) (e : End) (ends_now : List Ended) → budget ≡ k.machine.budget
-      → e ≡ end_within budget ((ended_of ends q).turns + 1) acted.end
-      → ends_now ≡ slice_set ends q (record { end = e; turns = (ended_of ends q).turns + 1 })
-      → ends_now ≡ slice_set ends q (record {
-        end = end_within k.machine.budget ((ended_of ends q).turns + 1) acted.end;
-        turns = (ended_of ends q).turns + 1;
-      })
-  ended_at budget acted e ends_now same is set =
-      set
-      ∙ (ap (λ (x : End). slice_set ends q (record { end = x; turns = (ended_of ends q).turns + 1 })) is
-      ∙ ap (λ (b : ℕ). slice_set ends q
-      (record { end = end_within b ((ended_of ends q).turns + 1) acted.end; turns = (ended_of ends q).turns + 1 })) same)
+  pub HasActed-now : {es : List Ended} {w : Want} {acted : Acted} {after : Chronicled} → es ≡ ends → w ≡ want_now
+      → acted.end ≡ (made_at es w).end → acted.value ≡ value_found k.machine k.items w → HasAdded k after (made_at es w).items
+      → HasActed acted after
+  HasActed-now {es} {w} {acted} {after} same is end value added = record {
+    end = end ∙ ap (λ (x : Made). x.end) (made_at-now es w same is);
+    value = value ∙ ap (value_found k.machine k.items) is;
+    added = subst (λ (x : Made). HasAdded k after x.items) (made_at-now es w same is) added;
+  }
+
+  -- the turn is counted, and its end is noted
+  pub record HasSettled (acted : Acted) (after : Chronicled) (ends_now : List Ended) : Type 0 where
+    pub done : HasActed acted after
+    pub ended : ends_now ≡ slice_set ends q (record {
+      end = end_within k.machine.budget ((ended_of ends q).turns + 1) acted.end;
+      turns = (ended_of ends q).turns + 1;
+    })
+
+  pub HasSettled-now : {acted : Acted} {after : Chronicled} {m : Machine} {e : End} {es ends_now : List Ended} → HasActed acted after
+      → m ≡ after.machine → e ≡ end_within m.budget ((ended_of ends q).turns + 1) acted.end
+      → es ≡ slice_set ends q (record { end = e; turns = (ended_of ends q).turns + 1 }) → ends_now ≡ es
+      → HasSettled acted after ends_now
+  HasSettled-now {acted} done same is set seen = record {
+    done = done;
+    ended =
+        seen ∙ set
+        ∙ ap (λ (x : End). slice_set ends q (record { end = x; turns = (ended_of ends q).turns + 1 }))
+        (is ∙ ap (λ (x : Machine). end_within x.budget ((ended_of ends q).turns + 1) acted.end) (same ∙ done.added.machine));
+  }
+
+  -- ---- after the turn proper, before the pass
+
+  module _ {acted : Acted} {after : Chronicled} {ends_now : List Ended} (settled : HasSettled acted after ends_now) where
+    added : HasAdded k after made_now.items
+    added = settled.done.added
+
+    ends_are : ends_now ≡ (with_made k.machine run_now q made_now).ends
+    ends_are =
+        settled.ended
+        ∙ (ap (λ (e : End). slice_set ends q
+        (record { end = end_within k.machine.budget ((ended_of ends q).turns + 1) e; turns = (ended_of ends q).turns + 1 }))
+        settled.done.end
+        ∙ ap (λ (e : End). slice_set ends q (record { end = e; turns = (ended_of ends q).turns + 1 }))
+        (end_within-after k.machine ((ended_of ends q).turns + 1) made_now.end))
+
+    pub settled_length : length ends_now ≡ length ends
+    settled_length = ap length settled.ended ∙ length-set ends q _
+
+    state_made : state_of after ends_now ≡ with_made k.machine run_now q made_now
+    state_made =
+        ap (λ is. record { history = is; ends = ends_now }) added.items
+        ∙ ap (λ es. record { history = k.items ++ made_now.items; ends = es }) ends_are
+
+    pub made_is_sound : Sound after.machine answer (state_of after ends_now)
+    made_is_sound =
+        let P : Machine → Type 0 = λ m. Sound m answer (state_of after ends_now) in
+        let Q : Coarse → Type 0 = λ s. Sound k.machine answer s in
+        subst P (sym added.machine)
+        (subst Q (sym state_made) (with_made_sound k.machine answer run_now q (t + 1) runs.machine runs.sound live))
+
+    passed_is : daemon after.machine answer (t + 1) (state_of after ends_now) ≡ turn k.machine answer run_now q
+    passed_is =
+        ap (λ (m : Machine). daemon m answer (t + 1) (state_of after ends_now)) added.machine
+        ∙ (ap (daemon k.machine answer (t + 1)) state_made
+        ∙ ap (λ (tick : ℕ). daemon k.machine answer (tick + 1)
+        (with_made k.machine run_now q (made_by k.machine answer run_now q (tick + 1) want_now))) runs.time)
+
+    pub passed_length : length (daemon after.machine answer (t + 1) (state_of after ends_now)).history ≤ length after.items + after.spare
+    passed_length =
+        let same = ap (λ (s : Coarse). length s.history) passed_is in
+        omega (arith, same, turned_room, runs.room, ap length added.items, length-append k.items made_now.items, added.spare)
+
+    pub passed_few : length (daemon after.machine answer (t + 1) (state_of after ends_now)).history ≤ 2621440
+    passed_few =
+        let same = ap (λ (s : Coarse). length s.history) passed_is in
+        omega (arith, same, turned_room, room-most k.machine runs.machine)
+
+    -- ---- after the pass, where the ends and the guests are read again
+
+    module _ (last : Chronicled) (ends_last : List Ended) (same : ends_now ≡ ends_last)
+        (passed : state_of last ends_now ≡ daemon after.machine answer (t + 1) (state_of after ends_now)) where
+      pub state_last : state_of last ends_last ≡ turn k.machine answer run_now q
+      state_last = ap (state_of last) (sym same) ∙ (passed ∙ passed_is)
+
+      pub RunsOn-last : {m : Machine} {guests_last : List GuestSeen} → last.machine ≡ after.machine
+          → last.spare + length last.items ≡ after.spare + length after.items → m ≡ after.machine
+          → guests_last ≡ guests_after m guests q acted → RunsOn last answer ends_last guests_last (t + 1)
+      RunsOn-last machine spare read stepped_all =
+          subst (λ (gs : List GuestSeen). RunsOn last answer ends_last gs (t + 1))
+          (sym (stepped_all ∙ ap (λ (m : Machine). guests_after m guests q acted) (read ∙ added.machine)))
+          (RunsOn-turn acted last ends_last (machine ∙ added.machine) settled.done.end settled.done.value state_last
+          (omega (arith, spare, ap length added.items, length-append k.items made_now.items, added.spare)))

@@ -4,4 +4,3 @@ pub mod Reached
 pub mod CoarseSeen
 pub mod Acted
 pub mod Advanced
-pub mod Tried

@@ -6,8 +6,6 @@ mod acts;
 mod faults;
 mod frames;
 mod messages;
-#[cfg(test)]
-mod tests;
 mod turns;
 
 pub use turns::{Coarse, Turned, most_turns};

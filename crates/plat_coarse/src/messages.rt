@@ -7,9 +7,7 @@ ghost use Rattle.plat_base.specs.Seen.{machine};
 ghost use Rattle.plat_chronicle.specs.Chronicle.{HasAdded, HasRoom};
 ghost use Rattle.plat_coarse.specs.Running.{state_of, entry_interrupts_now, interrupts_now, switch_items_now};
 
-use plat_base::{
-    Applied, Config, End, Ended, Message, Moment, PAGES, Removed, SPACES, Switch, Translation,
-};
+use plat_base::{Applied, Config, End, Ended, Message, Moment, Removed, Switch, Translation};
 use plat_chronicle::Chronicle;
 
 /// Whether a change removes something.
@@ -38,26 +36,6 @@ pub fn is_live(ends: &[Ended], q: u32) -> bool
 {
     ends.get(q as usize)
         .is_some_and(|ended| ended.end == End::Cut)
-}
-
-/// The numbers of the entries that lead to a page, rising. None leads to a page past the limit.
-fn entries_to(cfg: &Config, page: u32) -> &[u32]
-    ensures { result.now ≡ entries_of_page (machine cfg.now) page }
-{
-    if page >= PAGES {
-        return &[];
-    }
-    cfg.entries_of_page(page)
-}
-
-/// The numbers of the entries that belong to a space, rising. None belongs to a space past the limit.
-fn entries_in(cfg: &Config, space: u32) -> &[u32]
-    ensures { result.now ≡ entries_of_space (machine cfg.now) space }
-{
-    if space >= SPACES {
-        return &[];
-    }
-    cfg.entries_of_space(space)
 }
 
 /// Whether processor `r`, other than the initiator, is live, active in the entry's space, and holds the entry.
@@ -117,8 +95,8 @@ pub fn interrupt(
     if !removes_some(removed) {
         return;
     }
-    for place in 0..entries_to(chronicle.config(), page).len() {
-        let entry = entries_to(chronicle.config(), page)[place];
+    for place in 0..chronicle.config().entries_of_page(page).len() {
+        let entry = chronicle.config().entries_of_page(page)[place];
         interrupt_entry(chronicle, ends, initiator, entry, removed);
     }
 }
@@ -156,8 +134,8 @@ pub fn switch(chronicle: &mut Chronicle, q: u32, space: u32)
     ensures { HasAdded chronicle.old chronicle.new (switch_items_now chronicle.old q space) }
 {
     chronicle.add_switch(Switch { actor: q, space });
-    for place in 0..entries_in(chronicle.config(), space).len() {
-        let entry = entries_in(chronicle.config(), space)[place];
+    for place in 0..chronicle.config().entries_of_space(space).len() {
+        let entry = chronicle.config().entries_of_space(space)[place];
         if let Some(message) = owed_message(chronicle, q, entry) {
             chronicle.add_applied(Applied {
                 actor: q,

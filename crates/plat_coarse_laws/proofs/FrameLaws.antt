@@ -26,6 +26,7 @@ use Rattle.plat_base.specs.declared.policies.Verdict.TheVariants as verdict
 use Rattle.plat_base.specs.declared.policies.Decision.{Decision}
 use Rattle.plat_laws.proofs.NumberLaws.{find_numbers-none, find_numbers-some, list_any_numbers-true, filter_map_numbers-none, pigeon-holes}
 use Rattle.plat_laws.proofs.TableLaws.{DecideFacts, decide_facts, is_decided-change_by, same_right-itself, all_three, copy_on-empty}
+use Rattle.plat_laws.proofs.ItemLaws.{is_none-None}
 
 -- ---- used frames
 
@@ -243,16 +244,12 @@ number_none : (items : List Item) (q p : ℕ) → copy_on q (dir_of items p).cop
 unfolding number_on
 number_none items q p h = rw h
 
-is_none_None : (o : Option Frame) → is_none o ≡ true → o ≡ None
-is_none_None None h = refl
-is_none_None (Some f) h = absurd cc
-
 -- where no frame is free for an empty page there are fewer frames than pages
 pub starving : (m : Machine) (items : List Item) (q p : ℕ) → is_starved m items q p ≡ true → p < m.pages → q < m.nodes
     → is_dir m (dir_of items p) ≡ true → m.frames < m.pages
 starving m items q p s l u h =
     let r = and_parts (is_empty (dir_of items p).state) (is_none (nearest_free m items q)) s in
-    let none : free_frame m items q ≡ None = nearest_free-none m items q q (is_none_None (nearest_free m items q) r.1) u in
+    let none : free_frame m items q ≡ None = nearest_free-none m items q q (is_none-None (nearest_free m items q) r.1) u in
     pigeon-holes (number_on items q) m.frames m.pages p
     (λ i v. let w = used_frame m items q i (free_frame-none m items q i none v) in (w.0, w.1, number_some items q w.0 i w.2))
     l

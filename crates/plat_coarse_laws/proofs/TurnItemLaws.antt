@@ -2,7 +2,7 @@
 use Rattle.std.specs.Prelude.{◌≡◌, ◌≢◌, ◌≤◌, ◌<◌, ℕ, ◌+◌, ◌==◌, nat_lt, ◌&&◌, not, if◌then◌else◌, Bool, true, false, List, [], ◌∷◌, ◌++◌}
 use Rattle.std.specs.Prelude.{length, Option, Some, None}
 use Rattle.std.proofs.Common.{refl, ap, sym, subst, ◌∙◌, arith}
-use Rattle.std.specs.List.{list_any, cons_option}
+use Rattle.std.specs.List.{list_any}
 use Rattle.std.proofs.lemmas.Bool.{eq-eqb, ne_eqb, lt-ltb, le-ltb, and_from, cond-true, cond-false}
 use Rattle.std.proofs.lemmas.List.{append_assoc}
 use Rattle.std.proofs.lemmas.List.Folds.{list_any-append}
@@ -49,7 +49,7 @@ use Rattle.plat_laws.specs.Guests.{IsWithinLimits, IsGuest}
 use Rattle.plat_coarse_laws.specs.Sound.{IsNextChange}
 use Rattle.plat_laws.proofs.ItemLaws.{same_number, all_applied, is_by, dir_of-applied, seq_of-applied, last_of-applied, values_of-applied}
 use Rattle.plat_laws.proofs.ItemLaws.{operations_of-applied, held-not_mine, active-access, operations_of-append}
-use Rattle.plat_laws.proofs.GuestLaws.{next_operation-access, next_operation-switch, values_of-append, IsGuest-access}
+use Rattle.plat_laws.proofs.GuestLaws.{next_operation-access, next_operation-switch, IsGuest-access}
 use Rattle.plat_laws.proofs.GuestLaws.{IsGuest-switch, IsReach, IsReach-wanted, reach_of-page, reach_of-word}
 use Rattle.plat_laws.proofs.EndLaws.{bad_after-more, bad_after-one, values_of-not_by, operations_of-not_by}
 use Rattle.plat_coarse_laws.proofs.MessageLaws.{hit, interrupts-none_by_initiator, interrupts-none_by_ended, bad_after-interrupts, sent}
@@ -61,6 +61,10 @@ use Rattle.plat_laws.proofs.TableLaws.{PageFacts, fault_page, thaw_page, thaw_fa
 use Rattle.plat_laws.proofs.TableLaws.{same_cause-itself, same_dir-itself}
 use Rattle.plat_laws.proofs.TableLaws.{cause_of-fault}
 use Rattle.plat_coarse_laws.proofs.FrameLaws.{fault_facts, fault_decided}
+use Rattle.plat_laws.proofs.Limits.{not_both}
+use Rattle.plat_laws.proofs.ItemLaws.{values_of-append}
+use Rattle.plat_laws.proofs.ItemLaws.{values_of-access}
+use Rattle.plat_laws.proofs.ItemLaws.{operations_of-access}
 
 -- ---- the access that a reach makes
 
@@ -110,10 +114,6 @@ access_ordered m before acc r l f n d =
 granted_by : Access → Option Translation → (all writes : Bool) → Bool
 granted_by acc t all writes = is_grant_of acc t && has_right acc.kind t && not all && not (is_write acc.kind && writes)
 
-not_written : (w x : Bool) → (w ≡ true → x ≡ false) → not (w && x) ≡ true
-not_written true x h = ap not (h refl)
-not_written false x h = refl
-
 granted_by-parts :
     (acc : Access) (t : Translation) (all writes : Bool) → t.grant.frame ≡ acc.frame → t.seq ≡ acc.grant
     → has_right acc.kind (Some t) ≡ true → all ≡ false → (is_write acc.kind ≡ true → writes ≡ false)
@@ -124,7 +124,7 @@ granted_by-parts acc t all writes f s r a w =
     in and_from (is_grant_of acc (Some t) && has_right acc.kind (Some t) && not all) (not (is_write acc.kind && writes))
     (all_three (is_grant_of acc (Some t)) (has_right acc.kind (Some t)) (not all)
     (and_from (same_frame t.grant.frame acc.frame) (t.seq == acc.grant) frame (eq-eqb t.seq acc.grant s)) r (ap not a))
-    (not_written (is_write acc.kind) writes w)
+    (not_both (is_write acc.kind) writes w)
 
 access_granted :
     (m : Machine) (before : List Item) (acc : Access) (t : Translation)
@@ -547,27 +547,15 @@ no_operations-applied q xs h = operations_of-applied q [] xs h
 
 -- of an access
 
-values_of-own_access :
-    (q : ℕ) (acc : Access) → acc.actor ≡ q
-    → values_of q (item.Access acc ∷ []) ≡ (if reads_word acc.kind then acc.old ∷ [] else [])
-values_of-own_access q acc h = rw (h, eq-eqb q q refl) (by (reads_word acc.kind))
-  where
-    by : (b : Bool) → cons_option (if b then Some acc.old else None) [] ≡ (if b then acc.old ∷ [] else [])
-    by true = refl
-    by false = refl
-
-operations_of-own_access : (q : ℕ) (acc : Access) → acc.actor ≡ q → operations_of q (item.Access acc ∷ []) ≡ Accessed acc ∷ []
-operations_of-own_access q acc h = rw (h, eq-eqb q q refl) refl
-
 module _ (m : Machine) (items : List Item) (q : ℕ) (r : Reach) (frame : Frame) (grant : ℕ) where
   pub access_by-values :
       values_of q (access_by m items q r frame grant ∷ [])
       ≡ (if reads_word r.kind then (access_of m items q r frame grant).old ∷ [] else [])
-  access_by-values = values_of-own_access q (access_of m items q r frame grant) refl
+  access_by-values = values_of-access q (access_of m items q r frame grant) refl
 
   pub access_by-operations :
       operations_of q (access_by m items q r frame grant ∷ []) ≡ Accessed (access_of m items q r frame grant) ∷ []
-  access_by-operations = operations_of-own_access q (access_of m items q r frame grant) refl
+  access_by-operations = operations_of-access q (access_of m items q r frame grant) refl
 
   pub access_by-operations_other : (p : ℕ) → q ≢ p → operations_of p (access_by m items q r frame grant ∷ []) ≡ []
   access_by-operations_other p h = rw (ne_eqb q p h) refl
@@ -594,7 +582,7 @@ module _ (m : Machine) (s : Coarse) (q now entry : ℕ) (r : Reach) (d : Decisio
       in values_of-append q (sent m s c) (item.Change c ∷ item.Access access ∷ [])
       ∙ ap (λ vs. vs ++ values_of q (item.Access access ∷ []))
       (values_of-not_by q (sent m s c) (interrupts-none_by_initiator m s q r.page d.removed))
-      ∙ values_of-own_access q access refl
+      ∙ values_of-access q access refl
 
   -- each processor's operations are those of the access
   fault_items-operations_any :
@@ -607,7 +595,7 @@ module _ (m : Machine) (s : Coarse) (q now entry : ℕ) (r : Reach) (d : Decisio
       ∙ ap (λ os. os ++ operations_of p (item.Access access ∷ [])) (no_operations-applied p (sent m s c) (sent-applied m s c))
 
   pub fault_items-operations : operations_of q (fault_items m s q now entry r d) ≡ Accessed (fault_access m s.history q r d) ∷ []
-  fault_items-operations = fault_items-operations_any q ∙ operations_of-own_access q (fault_access m s.history q r d) refl
+  fault_items-operations = fault_items-operations_any q ∙ operations_of-access q (fault_access m s.history q r d) refl
 
   pub fault_items-operations_other : (p : ℕ) → q ≢ p → operations_of p (fault_items m s q now entry r d) ≡ []
   fault_items-operations_other p h =

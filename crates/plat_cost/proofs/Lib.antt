@@ -5,5 +5,3 @@ pub mod RestLaws
 pub mod BoundLaws
 pub mod CostLaws
 pub mod PageLemmas
-mod TriedRows
-pub mod TriedLemmas

@@ -1,7 +1,8 @@
 -- what a placer says of a page is what its lines say, and the sums over the pages
-use Rattle.std.specs.Prelude.{◌≡◌, ℕ, zero, suc, ◌+◌, ◌*◌, ◌<◌, ◌≤◌, ◌==◌, ◌||◌, if◌then◌else◌, Bool, true, false, Option, Result, Ok, Err}
+use Rattle.std.proofs.lemmas.Bool.Decides.{nat_tests}
+use Rattle.std.specs.Prelude.{◌≡◌, ℕ, ◌+◌, ◌*◌, ◌<◌, ◌≤◌, ◌==◌, ◌||◌, if◌then◌else◌, Bool, true, false, Option, Result, Ok, Err}
 use Rattle.std.specs.Prelude.{List, [], ◌∷◌, ◌++◌, length, take, sum_by, refl}
-use Rattle.std.proofs.Common.{ap, sym, ◌∙◌, arith, inl, inr, subst}
+use Rattle.std.proofs.Common.{ap, sym, ◌∙◌, arith, subst}
 use Rattle.std.proofs.lemmas.List.Sums.{sum_by-append}
 use Rattle.std.proofs.lemmas.Bool.{or_right}
 use Rattle.plat_base.specs.Canon.{Words}
@@ -15,7 +16,7 @@ use Rattle.plat_base.specs.declared.items.Item.TheVariants as item
 use Rattle.plat_base.proofs.LimitLemmas.{limits_of}
 use Rattle.plat_io.specs.Adds.{is_part}
 use Rattle.plat_io.specs.Lines.{text, AddsLines}
-use Rattle.plat_io.specs.Streams.{added, HasRisen}
+use Rattle.plat_io.specs.Streams.{added}
 use Rattle.plat_io.specs.declared.sinks.Sink.{Ghosts}
 use Rattle.plat_io.proofs.LineLemmas.{added_line, added_lines, is_part_line, is_part_lines, range_at}
 use Rattle.plat_cost.specs.BestPlans.{best_plan}
@@ -158,3 +159,7 @@ plan-length m [] [] h = refl
 plan-length m [] (x ∷ xs) h = absurd h
 plan-length m (a ∷ more) [] h = absurd h
 plan-length m (a ∷ more) (x ∷ xs) h = let rest = plan-length m more xs h.1 in omega arith
+
+-- a number that was found to be not zero
+pub some_there : (n : ℕ) (b : Bool) → b ≡ (n == 0) → b ≡ false → 0 < n
+some_there n b e f = grind (arith, nat_tests)

@@ -2,6 +2,8 @@
 use Rattle.std.specs.Prelude.{◌≡◌, ℕ, ◌*◌, ◌==◌, nat_lt, ◌&&◌, ◌||◌, not, ◌<◌, ◌≤◌, if◌then◌else◌, Bool, true, false, List, length, sum_by}
 use Rattle.std.specs.Prelude.{Option, Some, None, All}
 use Rattle.std.specs.List.{filter_map}
+use Rattle.std.specs.Option.{option_and_then}
+use Rattle.plat_base.specs.Items.{access_of}
 use Rattle.plat_base.specs.Machine.{Machine}
 use Rattle.plat_base.specs.Pages.{distance}
 use Rattle.plat_base.specs.Decide.{nearest}
@@ -37,10 +39,7 @@ abbrev pub actual : Machine → List Item → ℕ → ℕ
 actual m items page = sum_by (cost_of m page) items
 
 abbrev pub actor_on : ℕ → Item → Option ℕ
-actor_on page (item.Access a) = if a.page == page then Some a.actor else None
-actor_on page (item.Change c) = None
-actor_on page (item.Applied x) = None
-actor_on page (item.Switch s) = None
+actor_on page i = option_and_then (λ a. if a.page == page then Some a.actor else None) (access_of i)
 
 -- the actors of a page's accesses
 abbrev pub actors_on : List Item → ℕ → List ℕ

@@ -6,4 +6,3 @@ pub mod Distances
 pub mod Rests
 pub mod Placements
 pub mod CostLines
-pub mod Tried

@@ -14,6 +14,3 @@ pub use bounds::check_bound;
 pub use laws::one_best_plan;
 pub use placers::{Placed, Placer};
 pub use printing::print_costs;
-
-#[cfg(test)]
-mod tests;

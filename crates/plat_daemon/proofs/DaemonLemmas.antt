@@ -18,7 +18,7 @@ use Rattle.plat_base.specs.declared.words.Op.{Op}
 use Rattle.plat_base.specs.declared.words.WordName.{WordName}
 use Rattle.plat_base.specs.declared.words.WordName.TheVariants as word
 use Rattle.plat_laws.specs.Guests.{IsWithinLimits}
-use Rattle.plat_laws.proofs.Limits.{nodes-most, budget-most, platinum-limits}
+use Rattle.plat_laws.proofs.Limits.{platinum-limits}
 use Rattle.plat_words.proofs.PlacesApart.{place_of-below}
 use Rattle.plat_events.specs.Places.{is_word, place_of, word_count}
 use Rattle.plat_events.specs.Privates.{Place, LiveLooking, TimeLooking, Over, Locking, InSession, Private, actor_count, first_place}
@@ -57,7 +57,7 @@ seen_at now due page standing handler items = record {
 
 -- ---- the daemon is an actor
 
-actor_by : (n : ℕ) (b : Bool) → b ≡ true → n < n + (if b then 1 else 0)
+pub actor_by : (n : ℕ) (b : Bool) → b ≡ true → n < n + (if b then 1 else 0)
 actor_by n true e = omega arith
 actor_by n false e = absurd cc
 

@@ -1,3 +1,2 @@
 pub mod StageLemmas
 pub mod DaemonLemmas
-pub mod TriedLemmas

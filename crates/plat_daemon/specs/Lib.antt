@@ -1,4 +1,3 @@
 pub mod Places
 pub mod DaemonSeen
 pub mod Fits
-pub mod Tried

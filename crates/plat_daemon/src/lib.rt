@@ -5,6 +5,3 @@
 mod daemons;
 
 pub use daemons::{Daemon, Went};
-
-#[cfg(test)]
-mod tests;

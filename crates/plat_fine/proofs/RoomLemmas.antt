@@ -1,21 +1,19 @@
 -- a history has room for the items of all journals
-use Rattle.std.proofs.Common.{◌≡◌, ℕ, ◌+◌, ◌-◌, ◌*◌, ◌<◌, ◌≤◌, Bool, true, List, [], ◌∷◌, length, get_or, refl, ap, ◌∙◌, subst, arith}
+use Rattle.std.proofs.Common.{◌≡◌, ℕ, ◌+◌, ◌-◌, ◌*◌, ◌<◌, ◌≤◌, List, [], ◌∷◌, length, get_or, refl, ap, ◌∙◌, subst, arith}
 use Rattle.std.proofs.Common.{length-append}
-use Rattle.std.specs.Prelude.{IsTrue, if◌then◌else◌, replicate, sum_by, Option, Some, None, slice_index}
+use Rattle.std.specs.Prelude.{IsTrue, replicate, sum_by, Option, Some, None, slice_index}
 use Rattle.std.specs.List.{sum}
 use Rattle.std.specs.Option.{option_to_list}
 use Rattle.std.proofs.lemmas.List.{length-replicate, get_or_append_left, get_or-append_right, get_or-replicate}
 use Rattle.std.proofs.lemmas.List.Elements.{All-from_get_or}
 use Rattle.std.proofs.lemmas.List.Folds.{sum_by-replicate}
 use Rattle.std.proofs.lemmas.List.Sums.{sum_by-append, sum_by-le}
-use Rattle.std.proofs.lemmas.Nat.{mul-le}
 use Rattle.plat_base.specs.Machine.{Machine, is_machine}
 use Rattle.plat_base.specs.Roomy.{Roomy}
 use Rattle.plat_base.specs.Rooms.{processor_room, daemon_room, journal_rooms}
 use Rattle.plat_base.specs.Rules.{has_daemon}
 use Rattle.plat_base.specs.Verdicts.{policy_answer}
 use Rattle.plat_base.specs.declared.items.Item.{Item}
-use Rattle.plat_base.proofs.LimitLemmas.{Limits, limits_of}
 use Rattle.plat_base.proofs.RoomLemmas.{journal_rooms-most}
 use Rattle.plat_events.specs.Events.{with_item}
 use Rattle.plat_local_laws.proofs.RoomLaws.{journal_fits}
@@ -24,6 +22,7 @@ use Rattle.plat_proc.specs.Fits.{Fits}
 use Rattle.plat_daemon.specs.DaemonSeen.{DaemonSeen, state_of}
 use Rattle.plat_fine.specs.Crew.{IsCrew, no_proc, proc_at}
 use Rattle.plat_fine.specs.FineSeen.{HasRoomFor, IsSwept, RunsOn, items_of, items_swept, room_of}
+use Rattle.plat_daemon.proofs.DaemonLemmas.{actor_by}
 
 -- ---- the rooms of the journals
 
@@ -66,14 +65,11 @@ items-few m x h f =
     let fits = journal_fits m (policy_answer m.policy) x.actor x.state h (omega (arith, f.processor)) f.alone in
     omega (arith, fits, room-of_processor m x.actor f.processor)
 
-is-actor : (n : ℕ) (b : Bool) → b ≡ true → n < n + (if b then 1 else 0)
-is-actor n b h = rw h (omega arith)
-
 swept-few : (m : Machine) (daemon : Option DaemonSeen) → IsTrue (is_machine m) → IsSwept m daemon →
     items_swept daemon ≤ sum (rooms_of_daemon m)
 swept-few m None h f = omega arith
 swept-few m (Some x) h f =
-    let fits = journal_fits m (policy_answer m.policy) m.nodes (state_of m x) h (is-actor m.nodes (has_daemon m.policy) f.there) f.alone in
+    let fits = journal_fits m (policy_answer m.policy) m.nodes (state_of m x) h (actor_by m.nodes (has_daemon m.policy) f.there) f.alone in
     omega (arith, fits, room-of_daemon m)
 
 crew-few : (m : Machine) (procs : List ProcSeen) → IsTrue (is_machine m) → IsCrew m procs →

@@ -7,6 +7,3 @@ mod stepping;
 
 pub use fines::Fine;
 pub use plat_daemon::Went;
-
-#[cfg(test)]
-mod tests;

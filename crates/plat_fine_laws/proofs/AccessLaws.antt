@@ -24,7 +24,7 @@ use Rattle.plat_base.specs.declared.items.Removed.TheVariants as removed
 use Rattle.plat_base.specs.declared.items.Translation.{Translation}
 use Rattle.plat_base.proofs.CopiesLemmas.{same_frame-itself}
 use Rattle.plat_laws.specs.Guests.{IsWithinLimits}
-use Rattle.plat_laws.proofs.Limits.{page_of-below}
+use Rattle.plat_laws.proofs.Limits.{page_of-below, not_both}
 use Rattle.plat_laws.proofs.GuestLaws.{IsReach, IsReach-wanted, reach_of-word}
 use Rattle.plat_events.specs.Words.{data_word, value_read, version_read}
 use Rattle.plat_events.specs.Places.{is_name, is_data_word}
@@ -60,10 +60,6 @@ right-writes k None writes right = absurd cc
 right-writes kind.Load (Some x) writes right = absurd cc
 right-writes kind.Store (Some x) writes right = right
 right-writes kind.Add (Some x) writes right = sym (adds_as x.grant.right) ∙ right
-
-not_both : (b c : Bool) → (b ≡ true → c ≡ false) → not (b && c) ≡ true
-not_both true c h = ap not (h refl)
-not_both false c h = refl
 
 -- what agrees with a translation is there, in its frame and with its number
 agrees-is :

@@ -23,7 +23,6 @@ use Rattle.plat_events.specs.Kept.{session_behind, has_left, word_at, private_of
 use Rattle.plat_events.specs.Views.{place_view}
 use Rattle.plat_events.specs.Runs.{Fine, event}
 use Rattle.plat_events.specs.Shown.{Shows}
-use Rattle.plat_laws.proofs.Limits.{list_all-get_or}
 use Rattle.plat_local_laws.specs.Standing.{PlaceOk, ScanningOk}
 use Rattle.plat_local_laws.specs.Alone.{PrivateOk}
 use Rattle.plat_fine_laws.specs.Changes.{Changes, GoesOn, Moves, KeepsWords}
@@ -36,6 +35,7 @@ use Rattle.plat_fine_laws.proofs.PlaceLaws.{plain_view, go_on-goes}
 use Rattle.plat_fine_laws.proofs.ReachedLaws.{reached-moved}
 use Rattle.plat_fine_laws.proofs.Footprints.{look-changes}
 use Rattle.plat_fine_laws.proofs.MovedLaws.{scanned-entries, shows-moved}
+use Rattle.plat_base.proofs.LimitLemmas.{holds_at}
 
 -- ---- the entries of a space are entries of the machine, in that space
 
@@ -62,7 +62,7 @@ pub entry_of_space :
 entry_of_space m space i inside =
     let e = slice_index (entries_of_space m space) i in
     let both : (nat_lt e (0 + entry_count m) && (space_of m e == space)) ≡ true =
-    list_all-get_or (λ x. nat_lt x (0 + entry_count m) && (space_of m x == space)) (entries_of_space m space) i 0
+    holds_at (λ x. nat_lt x (0 + entry_count m) && (space_of m x == space)) (entries_of_space m space) i 0
     (entries_within (λ x. space_of m x == space) 0 (entry_count m)) inside in
     let parts = and_parts (nat_lt e (0 + entry_count m)) (space_of m e == space) both in
     (grind (arith, nat_tests), eqb-true (space_of m e) space parts.1)

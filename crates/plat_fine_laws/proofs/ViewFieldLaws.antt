@@ -9,12 +9,14 @@ use Rattle.plat_base.specs.Held.{has_right, removes_all, removes_writes}
 use Rattle.plat_base.specs.declared.items.Kind.TheVariants.{Store}
 use Rattle.plat_base.specs.declared.items.Translation.{Translation}
 use Rattle.plat_base.specs.declared.words.WordName.TheVariants.{Cmap}
-use Rattle.plat_events.specs.Words.{has_reference}
+use Rattle.plat_events.specs.Words.{has_reference, has_invalidate, has_restrict}
 use Rattle.plat_events.specs.Kept.{word_at}
-use Rattle.plat_events.specs.Views.{EntryOk, HeldOk, InvalidateStays, view, view_of, session_view, page_view, held_view, agrees}
+use Rattle.plat_events.specs.Views.{EntryOk, HeldOk, InvalidateStays, view, view_of, session_view, page_view, held_view, agrees, PlaceView}
 use Rattle.plat_events.specs.Views.{translation_of}
 use Rattle.plat_events.specs.Runs.{Fine}
 use Rattle.plat_fine_laws.specs.Changes.{KeepsPage, KeepsEntry}
+use Rattle.plat_events.specs.Views.{SessionView}
+use Rattle.plat_events.specs.Views.{PageView}
 
 pub page_view-same :
     (m : Machine) (s t : Fine) (page : ℕ) (x : Option Translation) → KeepsPage s t page → page_view m t page x ≡ page_view m s page x
@@ -53,3 +55,9 @@ pub reference_is_pmap-kept :
     has_reference (word_at m t (Cmap e)) q ≡ is_some (translation_of m t q e)
 reference_is_pmap-kept m s t q e mask translation ok =
     (λ i. has_reference (mask i) q) ∙ (ok ∙ sym (λ i. is_some (translation i)))
+
+-- the view of two masks with the same messages for the processor
+pub view_of-bits :
+    (q : ℕ) (t : Option Translation) (n k : ℕ) (x : SessionView) (y : PlaceView) (z : PageView) →
+    has_invalidate n q ≡ has_invalidate k q → has_restrict n q ≡ has_restrict k q → view_of q t n x y z ≡ view_of q t k x y z
+view_of-bits q t n k x y z invalidate restrict = λ i. record (view_of q t k x y z) { invalidate = invalidate i; restrict = restrict i }

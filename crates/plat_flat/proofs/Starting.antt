@@ -1,5 +1,5 @@
 -- the starting values, written from the last to the first, and what the limits of a machine say of them
-use Rattle.std.proofs.Common.{◌≡◌, ℕ, zero, suc, ◌*◌, ◌<◌, ◌≤◌, true, Bool, List, [], ◌∷◌, ◌++◌, length, get_or, set, replicate, refl, ap}
+use Rattle.std.proofs.Common.{◌≡◌, ℕ, ◌*◌, ◌<◌, ◌≤◌, true, List, [], ◌∷◌, ◌++◌, length, get_or, set, replicate, refl, ap}
 use Rattle.std.proofs.Common.{sym, ⊎_elim, ◌∙◌, arith}
 use Rattle.std.specs.Prelude.{◌==◌, ◌&&◌, if◌then◌else◌, IsTrue, find, unwrap_or}
 use Rattle.std.specs.List.{list_all}
@@ -9,35 +9,29 @@ use Rattle.std.proofs.lemmas.Bool.Decides.{nat_tests}
 use Rattle.std.proofs.lemmas.List.{append_assoc, append-nil, get_or-replicate, length-replicate, length-set}
 use Rattle.std.proofs.lemmas.List.Folds.{list_all-append}
 use Rattle.std.proofs.Math.Nat.{mul-le-mul_left}
-use Rattle.plat_base.specs.Machine.{Machine, limits, is_machine, is_within, is_page_size, is_init}
+use Rattle.plat_base.specs.Machine.{Machine, limits, is_machine, is_init}
 use Rattle.plat_base.specs.declared.configs.Init.{Init}
 use Rattle.plat_flat.specs.FlatSeen.{IsFlatOf, place}
 use Rattle.plat_flat.proofs.Accesses.{place-within, written_word}
-use Rattle.plat_base.proofs.LimitLemmas.{holds_at, page_size-most}
+use Rattle.plat_base.proofs.LimitLemmas.{limits_of}
 
 -- ---- limits
-
-limit_at : (m : Machine) (i : ℕ) → IsTrue (is_machine m) → i < 15 → get_or (limits m) i true ≡ true
-limit_at m i h l = holds_at (λ b. b) (limits m) i true h l
-
-is_within-high : (low high n : ℕ) → is_within low high n ≡ true → n ≤ high
-is_within-high low high n h = grind (arith, nat_tests)
 
 is_init-within : (pages words : ℕ) (i : Init) → is_init pages words i ≡ true → (i.page < pages) × (i.word < words)
 is_init-within pages words i h = grind (arith, nat_tests)
 
 pub few_words : (m : Machine) → IsTrue (is_machine m) → m.words ≤ 64
-few_words m h = page_size-most m.words (limit_at m 2 h (omega arith))
+few_words m h = (limits_of m h).words_most
 
 pub few_pages : (m : Machine) → IsTrue (is_machine m) → m.pages ≤ 64
-few_pages m h = is_within-high 1 64 m.pages (limit_at m 3 h (omega arith))
+few_pages m h = (limits_of m h).pages_most
 
 -- the starting value that stands before some others is one of a word of a page
 init_within :
     (m : Machine) (before written : List Init) (i : Init) → IsTrue (is_machine m) → m.inits ≡ before ++ i ∷ written
     → (i.page < m.pages) × (i.word < m.words)
 init_within m before written i h e =
-    let all : list_all (is_init m.pages m.words) (before ++ i ∷ written) ≡ true = rw e at (limit_at m 11 h (omega arith))
+    let all : list_all (is_init m.pages m.words) (before ++ i ∷ written) ≡ true = rw e at (limits_of m h).inits
     in let rest = (and_parts _ _ (rw (list_all-append (is_init m.pages m.words) before (i ∷ written)) at all)).1
     in is_init-within m.pages m.words i (and_parts _ _ rest).0
 

@@ -1,2 +1,1 @@
 pub mod FlatSeen
-pub mod Tried

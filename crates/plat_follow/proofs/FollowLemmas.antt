@@ -20,7 +20,7 @@ use Rattle.plat_base.specs.declared.items.Switch.{Switch}
 use Rattle.plat_base.specs.declared.items.Item.{Item}
 use Rattle.plat_base.specs.declared.items.Item.TheVariants as item
 use Rattle.plat_laws.specs.Guests.{IsGuest}
-use Rattle.plat_laws.proofs.GuestLaws.{more_values, guest_run-next, guest_run-next_same, values_found, values_of-append, values_of-none}
+use Rattle.plat_laws.proofs.GuestLaws.{more_values, guest_run-next, guest_run-next_same, values_found, values_of-none}
 use Rattle.plat_laws.proofs.GuestLaws.{IsGuest-start, IsGuest-local, IsGuest-print, IsGuest-access, IsGuest-switch}
 use Rattle.plat_laws.proofs.EndLaws.{values_of-no_operations, IsGuest-no_operations}
 use Rattle.plat_guest.specs.GuestSeen.{GuestSeen, new_guest, stepped, wanted_by}
@@ -31,6 +31,7 @@ use Rattle.plat_follow.specs.declared.stops.Stop.{Stop}
 use Rattle.plat_follow.specs.declared.stops.Stop.TheVariants as stop
 use Rattle.plat_follow.proofs.RunLemmas.{guest_after-unread, guest_after-same, state-found}
 use Rattle.plat_follow.proofs.NextLemmas.{awaited, awaited-next, stop-at, IsAt-want}
+use Rattle.plat_laws.proofs.ItemLaws.{values_of-append}
 
 -- ---- the start
 

@@ -1,5 +1,5 @@
 -- the run of one guest: earlier turns, a run that stays as it is, turns with and without an operation, values that are not read
-use Rattle.std.proofs.Common.{◌≡◌, ℕ, zero, suc, ◌+◌, ◌-◌, ◌<◌, ◌≤◌, Bool, true, false, List, [], ◌∷◌, ◌++◌, length, Option, Some, None}
+use Rattle.std.proofs.Common.{◌≡◌, ℕ, zero, suc, ◌+◌, ◌-◌, ◌<◌, ◌≤◌, Bool, true, false, List, ◌++◌, length, Option, Some, None}
 use Rattle.std.proofs.Common.{refl, arith, ap, ◌∙◌, add-zero, add-suc, if◌then◌else◌, not}
 use Rattle.std.specs.Prelude.{slice_get}
 use Rattle.std.proofs.lemmas.List.{append-nil, length-append}
@@ -16,7 +16,8 @@ use Rattle.plat_base.specs.declared.guests.Want.{Want}
 use Rattle.plat_base.specs.declared.guests.Want.TheVariants as want
 use Rattle.plat_base.specs.declared.items.Kind.{Kind}
 use Rattle.plat_base.specs.declared.items.Kind.TheVariants as kind
-use Rattle.plat_laws.proofs.GuestLaws.{fewer_turns, guest_run-next_same, more_turns, slice_get-append_at, values_found}
+use Rattle.plat_laws.proofs.GuestLaws.{fewer_turns, guest_run-next_same, more_turns, values_found, found-load}
+use Rattle.plat_laws.proofs.GuestLaws.{found-add}
 
 module _ (m : Machine) (q : ℕ) (vs : List ℕ) where
   -- ---- earlier turns
@@ -193,14 +194,6 @@ pub guest_after-same :
 guest_after-same m q s kind.Load sp a o v w e same = ap (guest_after m q s) (same refl)
 guest_after-same m q s kind.Store sp a o v w e same = guest_after-unread m q s v w (rw e)
 guest_after-same m q s kind.Add sp a o v w e same = ap (guest_after m q s) (same refl)
-
-found-load : (m : Machine) (q : ℕ) (vs : List ℕ) (r : GuestRun) (sp a o v : ℕ) → r.used ≡ length vs
-    → (guest_does m q (vs ++ v ∷ []) r (want.Access kind.Load sp a o)).state ≡ guest_after m q r.state v
-found-load m q vs r sp a o v used = rw (slice_get-append_at vs v [] r.used used) refl
-
-found-add : (m : Machine) (q : ℕ) (vs : List ℕ) (r : GuestRun) (sp a o v : ℕ) → r.used ≡ length vs
-    → (guest_does m q (vs ++ v ∷ []) r (want.Access kind.Add sp a o)).state ≡ guest_after m q r.state v
-found-add m q vs r sp a o v used = rw (slice_get-append_at vs v [] r.used used) refl
 
 -- after an access that found this value
 pub state-found :

@@ -1,3 +1,2 @@
 pub mod Wanted
 pub mod Followed
-pub mod Tried

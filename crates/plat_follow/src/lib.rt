@@ -5,8 +5,6 @@
 mod followers;
 mod processors;
 mod stops;
-#[cfg(test)]
-mod tests;
 mod wanted;
 
 pub use followers::Follower;

@@ -1,6 +1,6 @@
 -- a frame that is taken from its pool keeps the invariant
 use Rattle.std.specs.Prelude.{◌≡◌, ◌≢◌, ◌⊎◌, ℕ, zero, suc, ◌+◌, ◌-◌, ◌^◌, ◌<◌, ◌==◌, ◌&&◌, nat_lt, not, if◌then◌else◌, Bool, true, false}
-use Rattle.std.specs.Prelude.{List, [], ◌∷◌, length, Option, Some, None, is_none, IsTrue, sum_by, slice_index}
+use Rattle.std.specs.Prelude.{List, [], ◌∷◌, length, Some, None, is_none, IsTrue, sum_by, slice_index}
 use Rattle.std.proofs.Common.{refl, ap, sym, ◌∙◌, inl, inr, arith, subst}
 use Rattle.std.proofs.Math.Nat.{pow-le-pow_right}
 use Rattle.std.proofs.lemmas.Bool.{cases_eq, and_parts, eq-eqb, ne_eqb, true≢false}
@@ -50,6 +50,7 @@ use Rattle.plat_frame_laws.proofs.SessionHereLaws.{here, session, reached-sessio
 use Rattle.plat_frame_laws.proofs.StoreLaws.{pool-named, pool-apart, frame-node}
 use Rattle.plat_frame_laws.proofs.StillFrameLaws.{KeepsFrames-pool}
 use Rattle.plat_laws.proofs.SameLaws.{same_frame-true}
+use Rattle.plat_laws.proofs.ItemLaws.{is_none-None}
 
 -- ---- the module that is tried
 
@@ -62,14 +63,10 @@ own-tried true true node (suc i) near inside = absurd (omega arith)
 own-tried true false node i near inside = absurd (omega arith)
 own-tried false moves node i near inside = absurd (omega arith)
 
-none_is : (o : Option Frame) → is_none o ≡ true → o ≡ None
-none_is None h = refl
-none_is (Some f) h = absurd cc
-
 asked-none : (c : Cause) (dir : Dir) (node : ℕ) → asks c dir node ≡ true → copy_on node dir.copies ≡ None
-asked-none cause.Read dir node h = none_is (copy_on node dir.copies) (and_parts (not (is_empty dir.state)) (is_none (copy_on node
+asked-none cause.Read dir node h = is_none-None (copy_on node dir.copies) (and_parts (not (is_empty dir.state)) (is_none (copy_on node
     dir.copies)) h).1
-asked-none cause.Write dir node h = none_is (copy_on node dir.copies) (and_parts (not (is_empty dir.state)) (is_none (copy_on node
+asked-none cause.Write dir node h = is_none-None (copy_on node dir.copies) (and_parts (not (is_empty dir.state)) (is_none (copy_on node
     dir.copies)) h).1
 asked-none cause.Thaw dir node h = absurd cc
 

@@ -7,6 +7,3 @@ mod guests;
 mod lists;
 
 pub use generated::generate;
-
-#[cfg(test)]
-mod tests;

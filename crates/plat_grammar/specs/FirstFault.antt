@@ -2,7 +2,7 @@
 use Rattle.std.specs.Prelude.{ℕ, zero, suc, ◌+◌, ◌==◌, nat_lt, nat_le, Bool, ◌||◌, if◌then◌else◌, List, [], ◌∷◌, ◌++◌, length, Result, Ok}
 use Rattle.std.specs.Prelude.{Err, bytes_eq, codes}
 use Rattle.plat_grammar.specs.Lines.{number_of}
-use Rattle.plat_grammar.specs.Forms.{◌>>=◌, Row, Rest, Stop, rows_of, refused, missing, row_length, row_at, word_at, first_word, read_as}
+use Rattle.plat_grammar.specs.Forms.{◌>>=◌, Row, Rest, Stop, rows_of, refused, missing, row_at, word_at, first_word, read_as}
 use Rattle.plat_grammar.specs.Forms.{one, exactly, number_in, any_number, number, below, nothing, ◌·◌, made, choice, listed, once, line_at}
 use Rattle.plat_grammar.specs.Forms.{all_with, over}
 use Rattle.plat_grammar.specs.Drafts.{Draft, name_of, instruction_line, code_from}
@@ -148,15 +148,15 @@ abbrev pub ends_guest : List ℕ → Bool
 ends_guest word = bytes_eq word (codes "guest") || bytes_eq word (codes "end")
 
 -- the lines of a guest up to the next `guest` or `end`; what stands before them was seen
-unfoldable pub body_from : Stop → ℕ → List Draft → List Label → List Row → Result ((List Draft × List Label) × Rest) Refused
-body_from stop given drafts labels [] = Err (missing stop)
-body_from stop given drafts labels (row ∷ rows) = first_word row >>= λ w.
+unfoldable pub body_from : Stop → List Draft → List Label → List Row → Result ((List Draft × List Label) × Rest) Refused
+body_from stop drafts labels [] = Err (missing stop)
+body_from stop drafts labels (row ∷ rows) = first_word row >>= λ w.
     (if ends_guest w.bytes
-    then Ok ((drafts, labels), record { given = given; rows = row ∷ rows; stop = stop })
-    else (body_line drafts labels row >>= λ b. body_from stop (given + row_length row) b.0 b.1 rows))
+    then Ok ((drafts, labels), record { rows = row ∷ rows; stop = stop })
+    else (body_line drafts labels row >>= λ b. body_from stop b.0 b.1 rows))
 
 abbrev pub body_at : Rest → Result ((List Draft × List Label) × Rest) Refused
-body_at rest = body_from rest.stop rest.given [] [] rest.rows
+body_at rest = body_from rest.stop [] [] rest.rows
 
 unfoldable pub guest_at : Rest → Result (Program × Rest) Refused
 guest_at rest = do

@@ -43,10 +43,8 @@ pub data Stop : Type 0 where
   finished : (line : ℕ) → Stop
   broken : (fault : Refused) → Stop
 
--- what is still to read of a text: how many bytes the rows before it take as lines of a canonical text, the rows up to
--- the end or the first broken line, and which of them it is
+-- what is still to read of a text: the rows up to the end or the first broken line, and which of them it is
 pub record Rest : Type 0 where
-  pub given : ℕ
   pub rows : List Row
   pub stop : Stop
 
@@ -72,7 +70,7 @@ with_line (Err fault) rest = record rest { rows = []; stop = broken fault }
 
 -- the rows of lines, where n is the number of the line after the last
 abbrev pub rest_of : ℕ → List LineText → Rest
-rest_of n [] = record { given = 0; rows = []; stop = finished n }
+rest_of n [] = record { rows = []; stop = finished n }
 rest_of n (l ∷ ls) = with_line (row_of l) (rest_of (l.number + 1) ls)
 
 -- the rows of bytes whose first line has this number
@@ -84,18 +82,9 @@ abbrev pub missing : Stop → Refused
 missing (finished line) = refused line 1 Missing
 missing (broken fault) = fault
 
--- the bytes of words in a line of a canonical text: one more byte stands after each
-abbrev pub spelled_size : List Word → ℕ
-spelled_size [] = 0
-spelled_size (w ∷ ws) = length w.bytes + 1 + spelled_size ws
-
--- the bytes of a row as a line of a canonical text
-abbrev pub row_length : Row → ℕ
-row_length row = spelled_size row.words
-
 abbrev pub row_from : Rest → List Row → Result (Row × Rest) Refused
 row_from rest [] = Err (missing rest.stop)
-row_from rest (row ∷ rows) = Ok (row, record rest { given = rest.given + row_length row; rows = rows })
+row_from rest (row ∷ rows) = Ok (row, record rest { rows = rows })
 
 -- the next row
 abbrev pub row_at : Rest → Result (Row × Rest) Refused
@@ -224,16 +213,16 @@ abbrev pub line_at : {A : Type 0} → List ℕ → (Row → Result A Refused) �
 line_at word read rest = opened word rest >>= λ r. read r.0 >>= λ x. Ok (x, r.1)
 
 -- the lines with this first word, as many as come, no two of them the same; what stands before them was seen
-abbrev pub repeated : {A : Type 0} → List ℕ → (A → A → Bool) → (Row → Result A Refused) → Stop → ℕ → List A → List Row →
+abbrev pub repeated : {A : Type 0} → List ℕ → (A → A → Bool) → (Row → Result A Refused) → Stop → List A → List Row →
     Result (List A × Rest) Refused
-repeated word same read stop given seen [] = Err (missing stop)
-repeated word same read stop given seen (row ∷ rows) = word_at row >>= λ w.
+repeated word same read stop seen [] = Err (missing stop)
+repeated word same read stop seen (row ∷ rows) = word_at row >>= λ w.
     (if bytes_eq w.0.bytes word
-    then (once same seen read w.1 >>= λ x. repeated word same read stop (given + row_length row) (seen ++ x ∷ []) rows)
-    else Ok (seen, record { given = given; rows = row ∷ rows; stop = stop }))
+    then (once same seen read w.1 >>= λ x. repeated word same read stop (seen ++ x ∷ []) rows)
+    else Ok (seen, record { rows = row ∷ rows; stop = stop }))
 
 abbrev pub all_with : {A : Type 0} → List ℕ → (A → A → Bool) → (Row → Result A Refused) → Rest → Result (List A × Rest) Refused
-all_with word same read rest = repeated word same read rest.stop rest.given [] rest.rows
+all_with word same read rest = repeated word same read rest.stop [] rest.rows
 
 abbrev pub over_from : Stop → List Row → Result (Unit {0}) Refused
 over_from (finished line) [] = Ok (tt {0})

@@ -1,2 +1,1 @@
 pub mod GuestSeen
-pub mod Tried

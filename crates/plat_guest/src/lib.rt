@@ -3,7 +3,5 @@
 
 mod guests;
 mod programs;
-#[cfg(test)]
-mod tests;
 
 pub use guests::Guest;

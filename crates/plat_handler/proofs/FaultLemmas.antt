@@ -1,12 +1,14 @@
 -- what a page is locked for, and what is decided: each frame that is named is one of the machine
 use Rattle.std.proofs.Common.{◌≡◌, ◌≢◌, ℕ, zero, suc, ◌<◌, ◌≤◌, Bool, true, false, List, [], ◌∷◌, length, filter, Option, Some, None, refl}
-use Rattle.std.proofs.Common.{arith}
-use Rattle.std.specs.Prelude.{IsTrue, nat_lt, ◌&&◌, is_none, slice_get, unwrap_or}
+use Rattle.std.proofs.Common.{sym, ap, ◌∙◌, arith}
+use Rattle.std.specs.Prelude.{IsTrue, nat_lt, ◌&&◌, if◌then◌else◌, is_none, slice_get, unwrap_or}
 use Rattle.std.specs.List.{list_all}
 use Rattle.std.proofs.lemmas.Bool.Decides.{nat_tests}
+use Rattle.std.proofs.lemmas.Option.{same_Some}
 use Rattle.plat_base.specs.Verdicts.{Answer}
 use Rattle.plat_base.specs.Machine.{Machine}
 use Rattle.plat_base.specs.Decide.{decide, is_frame, is_dir, is_empty, fits_cause, nearest, nearer, first_frame}
+use Rattle.plat_base.specs.Rules.{names_got}
 use Rattle.plat_base.specs.declared.frames.Frame.{Frame}
 use Rattle.plat_base.specs.declared.frames.Dir.{Dir}
 use Rattle.plat_base.specs.declared.items.Cause.{Cause}
@@ -112,6 +114,24 @@ frame-decide m answer dir last now n cause.Write got d f = (facts-decide m answe
 frame-decide m answer dir last now n cause.Thaw got d f =
     first-frame m dir.copies
     (has_some m dir d (frozen-some m dir d (and_left dir.frozen (is_none got) f))) (dir_parts m dir d).0
+
+named : (b : Bool) (g f : Frame) (got : Option Frame) → (if b then Some g else None) ≡ got → got ≡ Some f → g ≡ f
+named true g f got h e = same_Some g f (h ∙ e)
+named false g f got h e = absurd (cc (h ∙ e))
+
+-- a frame that was got is the one that the translation leads to
+pub got-decide :
+    (m : Machine) (answer : Answer) (dir : Dir) (last : Option ℕ) (now n : ℕ) (c : Cause) (got : Option Frame) (f : Frame) →
+    IsTrue (is_dir m dir) → IsTrue (fits_cause m answer dir last now n c got) → got ≡ Some f →
+    (decide m answer dir last now n c got).frame ≡ f
+got-decide m answer dir last now n cause.Read got f d k e =
+    let decided = decide m answer dir last now n cause.Read got in
+    named (names_got decided.action) decided.frame f got (facts-decide m answer dir last now n cause.Read got d k not_read).got_back e
+got-decide m answer dir last now n cause.Write got f d k e =
+    let decided = decide m answer dir last now n cause.Write got in
+    named (names_got decided.action) decided.frame f got (facts-decide m answer dir last now n cause.Write got d k not_write).got_back e
+got-decide m answer dir last now n cause.Thaw got f d k e =
+    let none : is_none got ≡ true = and_right dir.frozen (is_none got) k in absurd (cc (sym none ∙ ap is_none e))
 
 -- ---- frames among the copies
 

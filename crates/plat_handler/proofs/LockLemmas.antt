@@ -1,6 +1,6 @@
 -- the directory that a lock finds
-use Rattle.std.proofs.Common.{◌≡◌, ℕ, Bool, true, false, refl, arith}
-use Rattle.std.specs.Prelude.{IsTrue, ◌==◌, ◌&&◌}
+use Rattle.std.proofs.Common.{◌≡◌, ℕ, true, arith}
+use Rattle.std.specs.Prelude.{IsTrue, ◌==◌}
 use Rattle.std.proofs.lemmas.Bool.Decides.{nat_tests}
 use Rattle.plat_base.specs.Machine.{Machine}
 use Rattle.plat_base.specs.Decide.{is_dir}

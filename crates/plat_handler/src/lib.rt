@@ -16,6 +16,3 @@ pub use asks::Ask;
 pub use faults::Fault;
 pub use handlers::Handler;
 pub use plat_shoot::Own;
-
-#[cfg(test)]
-mod tests;

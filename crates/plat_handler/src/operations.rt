@@ -93,13 +93,16 @@ fn unlocked(dir: &Dir) -> u64
     word.encode()
 }
 
-/// The frame that the granted translation leads to.
+/// The frame that the granted translation leads to: one that was taken from a pool, if any.
 fn taken(cfg: &Config, lock: &Lock, course: &Course) -> Frame
     requires { Decides (machine cfg.now) lock.now course.now }
     ensures frame { result ≡ (decided (machine cfg.now) lock.now course.now).frame }
     ensures within { IsTrue (is_frame (machine cfg.now) result) }
 {
-    decision(cfg, lock, course).frame
+    match course.got {
+        Some(frame) => frame,
+        None => decision(cfg, lock, course).frame,
+    }
 }
 
 /// The frame that is given back where so many are.

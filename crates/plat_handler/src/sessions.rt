@@ -4,7 +4,7 @@ ghost use Rattle.plat_base.specs.Seen.{machine};
 ghost use Rattle.plat_events.specs.Events.{is_followed};
 ghost use Rattle.plat_shoot.specs.ShootSeen.{ShootSeen};
 ghost use Rattle.plat_handler.specs.Decided.{Decides, RunsOn, RemovesSome};
-ghost use Rattle.plat_handler.specs.Courses.{stage_told, Shoots};
+ghost use Rattle.plat_handler.specs.Courses.{operation_of, stage_told, Shoots};
 ghost use Rattle.plat_handler.specs.Phases.{session_seen, phase_seen, then_seen, stage_seen, posts_in, ShootsWell, fault_seen};
 ghost use Rattle.plat_handler.specs.Stages.{Locks, Runs};
 ghost use Rattle.plat_handler.specs.Settled.{stage_with, IsOf, IsShootOf, EntersOn, ThenShoots, own_of_shot};
@@ -12,7 +12,8 @@ ghost use Rattle.plat_handler.specs.Settled.{stage_with, IsOf, IsShootOf, Enters
 use crate::courses::{after, shot_over};
 use crate::operations::operation;
 use crate::phases::{Course, Lock, Phase, Stage, Then};
-use plat_base::{Config, Dir, Op, WordName};
+use plat_base::{Config, Dir};
+use plat_policy::is_dir;
 use plat_shoot::{Own, Shoot};
 use plat_words::{DirWord, is_word};
 
@@ -26,12 +27,17 @@ pub fn locked(cfg: &Config, lock: &mut Lock, old: u64) -> Stage
     ensures stage { stage_seen lock.new None result
         ≡ stage_told (machine cfg.now) lock.old old (Locks (fault_seen lock.old.fault)) }
 {
-    if !is_word(cfg, WordName::Dir(lock.fault.page), old) {
+    let Some(found) = DirWord::decode(old) else {
+        return Stage::Locking;
+    };
+    let dir = Dir {
+        state: found.state,
+        frozen: found.frozen,
+        copies: found.copies,
+    };
+    if !is_dir(cfg, &dir) {
         return Stage::Locking;
     }
-    let Some(found) = DirWord::decode(old) else {
-        unreachable!()
-    };
     if found.locked {
         return if lock.actor == cfg.nodes {
             Stage::Locking
@@ -39,11 +45,7 @@ pub fn locked(cfg: &Config, lock: &mut Lock, old: u64) -> Stage
             Stage::Relocking
         };
     }
-    lock.dir = Dir {
-        state: found.state,
-        frozen: found.frozen,
-        copies: found.copies,
-    };
+    lock.dir = dir;
     if lock.actor == cfg.nodes && !found.frozen {
         Stage::Running(Phase::Returning)
     } else {
@@ -99,8 +101,7 @@ pub fn ran(cfg: &Config, lock: &Lock, shoot: &mut Option<Shoot>, phase: Phase, o
         ≡ stage_told (machine cfg.now) lock.now old (stage_seen lock.now shoot.old (Stage.Running phase)) }
     ensures well { ShootsWell shoot.new result }
 {
-    let (name, op) = operation(cfg, lock, phase);
-    if !is_followed(cfg, name, op, old) {
+    if !is_followed(cfg, lock, phase, old) {
         return Stage::Running(phase);
     }
     match phase {
@@ -110,11 +111,28 @@ pub fn ran(cfg: &Config, lock: &Lock, shoot: &mut Option<Shoot>, phase: Phase, o
     }
 }
 
-/// Whether the operation tells a number that its word may be. A store tells nothing, and is always followed.
-fn is_followed(cfg: &Config, name: WordName, op: Op, old: u64) -> bool
-    ensures { result ≡ is_followed (machine cfg.now) (Some (name, op)) old }
+/// Whether the operation of a phase tells a number that its word may be. A store tells nothing, and is always followed.
+fn is_followed(cfg: &Config, lock: &Lock, phase: Phase, old: u64) -> bool
+    requires fits { RunsOn (machine cfg.now) lock.now phase }
+    requires tick { lock.now.tick < 4294967295 }
+    ensures { result ≡ is_followed (machine cfg.now) (Some (operation_of (machine cfg.now) lock.now phase)) old }
 {
-    matches!(op, Op::Store(_)) || is_word(cfg, name, old)
+    match phase {
+        Phase::Returning
+        | Phase::Filling { .. }
+        | Phase::Copying { .. }
+        | Phase::Storing(_)
+        | Phase::Unlocking(_) => true,
+        Phase::Stamping
+        | Phase::Seeking { .. }
+        | Phase::Taking { .. }
+        | Phase::Reading { .. }
+        | Phase::Giving { .. }
+        | Phase::Granting(_) => {
+            let (name, _) = operation(cfg, lock, phase);
+            is_word(cfg, name, old)
+        }
+    }
 }
 
 /// The operation of the shootdown found `old`.

@@ -8,8 +8,6 @@ mod item_lines;
 mod names;
 mod printing;
 mod reading;
-#[cfg(test)]
-mod tests;
 mod written_names;
 mod written_words;
 

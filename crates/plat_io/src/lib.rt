@@ -10,8 +10,6 @@ pub mod quiet;
 pub mod reading;
 pub mod sinks;
 pub mod sources;
-#[cfg(test)]
-mod tests;
 pub mod writing;
 
 pub use adapters::{StdSink, StdSource};

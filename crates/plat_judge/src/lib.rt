@@ -7,7 +7,5 @@ mod changes;
 mod ends;
 mod judges;
 mod messages;
-#[cfg(test)]
-mod tests;
 
 pub use judges::Judge;

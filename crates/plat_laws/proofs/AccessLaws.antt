@@ -13,15 +13,13 @@ use Rattle.plat_base.specs.Copies.{same_frame}
 use Rattle.plat_base.specs.Held.{held, held_through, has_right, later, removes_all, removes_writes}
 use Rattle.plat_base.specs.Decide.{is_frame}
 use Rattle.plat_base.specs.Rules.{entry_of_access, is_grant_of, is_granted, is_legal, is_access_next, is_ordered_access, next_operation}
-use Rattle.plat_base.specs.Rules.{unless, first_rule, bad_rule, bad_at}
+use Rattle.plat_base.specs.Rules.{unless, first_rule, bad_rule}
 use Rattle.plat_base.specs.Histories.{IsByGrant}
 use Rattle.plat_base.specs.declared.items.Access.{Access}
 use Rattle.plat_base.specs.declared.items.Item.{Item}
 use Rattle.plat_base.specs.declared.items.Item.TheVariants as item
 use Rattle.plat_base.specs.declared.items.Translation.{Translation}
-use Rattle.plat_base.specs.declared.statuses.Rule.{Rule}
 use Rattle.plat_base.specs.declared.statuses.Rule.TheVariants as rule
-use Rattle.plat_base.specs.declared.statuses.Bad.{Bad}
 use Rattle.plat_laws.proofs.SameLaws.{same_frame-true}
 use Rattle.plat_laws.proofs.ReachLaws.{HasEntry, IsOfEntry}
 use Rattle.plat_laws.proofs.ChangeLaws.{next_operation-entry}

@@ -4,7 +4,6 @@ use Rattle.std.proofs.Common.{arith, add-one, add-zero, add-suc, append_assoc, s
 use Rattle.std.specs.Prelude.{slice_get, slice_index_or, is_some, ◌/◌, ◌%◌, ◌==◌, ◌&&◌, unwrap_or}
 use Rattle.std.specs.List.{position_from}
 use Rattle.std.proofs.lemmas.List.{append-nil, length-append}
-use Rattle.std.proofs.lemmas.List.Elements.{filter_map-append}
 use Rattle.std.proofs.lemmas.Bool.Decides.{nat_tests}
 use Rattle.plat_base.specs.Machine.{Machine, Program}
 use Rattle.plat_base.specs.Pages.{program_of, entry_at, page_of, space_of, no_entry, entry_reached}
@@ -12,7 +11,7 @@ use Rattle.plat_base.specs.GuestRun.{GuestRun, GuestState, Reach, Operation, Rea
 use Rattle.plat_base.specs.GuestRun.{want_of, guest_after, values_taken, value_for, reach_of, with_turn, with_access, guest_does}
 use Rattle.plat_base.specs.GuestRun.{guest_more, guest_run, passed, gone, executed, executed_next, wanted, wanted_next, address, register}
 use Rattle.plat_base.specs.GuestRun.{target}
-use Rattle.plat_base.specs.Done.{Done, Accessed, Switched, value_of, values_of, operations_of, is_done_access, are_done}
+use Rattle.plat_base.specs.Done.{Done, Accessed, Switched, values_of, operations_of, is_done_access, are_done}
 use Rattle.plat_base.specs.Done.{reads_word}
 use Rattle.plat_base.specs.Held.{active}
 use Rattle.plat_base.specs.Rules.{next_operation}
@@ -27,7 +26,7 @@ use Rattle.plat_base.specs.declared.guests.Want.{Want}
 use Rattle.plat_base.specs.declared.guests.Want.TheVariants as want
 use Rattle.plat_base.specs.declared.items.Kind.{Kind}
 use Rattle.plat_base.specs.declared.items.Kind.TheVariants as kind
-use Rattle.plat_laws.proofs.ItemLaws.{operations_of-append}
+use Rattle.plat_laws.proofs.ItemLaws.{operations_of-append, values_of-append}
 use Rattle.plat_base.proofs.ListLemmas.{slice_get-append}
 
 -- ---- one turn
@@ -288,9 +287,6 @@ space-guest_after m q s v = space-executed_next m (program_of m q) s v (slice_ge
 
 -- ---- more items
 
-pub values_of-append : (q : ℕ) (items more : List Item) → values_of q (items ++ more) ≡ values_of q items ++ values_of q more
-values_of-append q items more = filter_map-append (value_of q) items more
-
 pub values_of-none : (q : ℕ) (items more : List Item) → values_of q more ≡ [] → values_of q (items ++ more) ≡ values_of q items
 values_of-none q items more h = rw (values_of-append, h, append-nil)
 
@@ -512,3 +508,13 @@ reach_of-page m s k sp a o e h r = rw r.page (page_of-below m e h r.below)
 
 pub reach_of-word : (m : Machine) (k : Kind) (sp a o : ℕ) → IsWithinLimits m → (reach_of m k sp a o).word < m.words
 reach_of-word m k sp a o h = omega (arith, words-some m h)
+
+-- ---- an access that takes its value from the list
+
+pub found-load : (m : Machine) (q : ℕ) (vs : List ℕ) (r : GuestRun) (sp a o v : ℕ) → r.used ≡ length vs
+    → (guest_does m q (vs ++ v ∷ []) r (want.Access kind.Load sp a o)).state ≡ guest_after m q r.state v
+found-load m q vs r sp a o v used = rw (slice_get-append_at vs v [] r.used used) refl
+
+pub found-add : (m : Machine) (q : ℕ) (vs : List ℕ) (r : GuestRun) (sp a o v : ℕ) → r.used ≡ length vs
+    → (guest_does m q (vs ++ v ∷ []) r (want.Access kind.Add sp a o)).state ≡ guest_after m q r.state v
+found-add m q vs r sp a o v used = rw (slice_get-append_at vs v [] r.used used) refl

@@ -10,7 +10,7 @@ use Rattle.plat_base.specs.Pages.{numbers}
 use Rattle.plat_base.specs.Flat.{is_write, flat_value}
 use Rattle.plat_base.specs.Directories.{dir_of}
 use Rattle.plat_base.specs.Held.{later, is_later_change, removes_all, removes_writes}
-use Rattle.plat_base.specs.Rules.{is_in_order, bad_rule, bad_after, bad_ends, bad_or, are_ends, first_bad, Good}
+use Rattle.plat_base.specs.Rules.{is_in_order, bad_rule, bad_after, bad_ends, are_ends, first_bad, Good}
 use Rattle.plat_base.specs.Histories.{TookAway, UsesNothingRemoved, FindsCopyWord, IsOneHistory}
 use Rattle.plat_base.specs.declared.endings.Ended.{Ended}
 use Rattle.plat_base.specs.declared.items.Access.{Access}

@@ -1,6 +1,6 @@
 -- what each item of a history leaves alone, and what it changes: of an append, of applied messages, and of one more item
 use Rattle.std.specs.Prelude.{◌≡◌, ◌≢◌, ℕ, zero, suc, ◌+◌, ◌/◌, ◌==◌, nat_lt, nat_le, ◌&&◌, ◌||◌, not, if◌then◌else◌, Bool, true, false}
-use Rattle.std.specs.Prelude.{List, [], ◌∷◌, ◌++◌, ◌⊎◌, length, filter, Option, Some, None}
+use Rattle.std.specs.Prelude.{List, [], ◌∷◌, ◌++◌, ◌⊎◌, length, filter, Option, Some, None, is_none}
 use Rattle.std.proofs.Common.{refl, ap, sym, ◌∙◌, inl, inr, arith}
 use Rattle.std.specs.List.{fold, list_any, list_all, filter_map, cons_option}
 use Rattle.std.proofs.lemmas.Bool.{and_parts, or_parts, not-true, eq-eqb, ne_eqb, cond-true, cond-false, cases_Bool}
@@ -12,10 +12,10 @@ use Rattle.plat_base.specs.Verdicts.{Answer}
 use Rattle.plat_base.specs.Machine.{Machine}
 use Rattle.plat_base.specs.Pages.{entry_at, page_of, program_of, initial_value}
 use Rattle.plat_base.specs.Flat.{writes_word, written, flat_value, flat_writes}
-use Rattle.plat_base.specs.Directories.{change_of, empty_dir, dir_after, dir_of, seq_after, seq_of, last_after, last_of}
+use Rattle.plat_base.specs.Directories.{change_on, empty_dir, dir_after, dir_of, seq_after, seq_of, last_after, last_of}
 use Rattle.plat_base.specs.Held.{kept_of, granted_to, held_after, held, active_after, active, has_right, is_later_change, later}
 use Rattle.plat_base.specs.Held.{held_through}
-use Rattle.plat_base.specs.Done.{value_of, values_of, Done, done_of, operations_of, are_done}
+use Rattle.plat_base.specs.Done.{value_of, values_of, reads_word, Done, Accessed, done_of, operations_of, are_done}
 use Rattle.plat_base.specs.GuestRun.{guest_run, want_of, GoesOn, HasHalted, HasTrapped}
 use Rattle.plat_base.specs.Ends.{ended_of}
 use Rattle.plat_base.specs.Messages.{is_owed_for, by_other}
@@ -113,16 +113,16 @@ other_number n k x y h = cond-false (n == k) x y (ne_eqb n k h)
 -- ---- an append: each fold goes on, each test is an or
 
 pub dir_of-append : (xs ys : List Item) (page : ℕ) →
-    dir_of (xs ++ ys) page ≡ fold (λ d i. dir_after d (change_of page i)) (dir_of xs page) ys
-dir_of-append xs ys page = fold-append (λ d i. dir_after d (change_of page i)) empty_dir xs ys
+    dir_of (xs ++ ys) page ≡ fold (λ d i. dir_after d (change_on page i)) (dir_of xs page) ys
+dir_of-append xs ys page = fold-append (λ d i. dir_after d (change_on page i)) empty_dir xs ys
 
 pub seq_of-append : (xs ys : List Item) (page : ℕ) →
-    seq_of (xs ++ ys) page ≡ fold (λ n i. seq_after n (change_of page i)) (seq_of xs page) ys
-seq_of-append xs ys page = fold-append (λ n i. seq_after n (change_of page i)) 0 xs ys
+    seq_of (xs ++ ys) page ≡ fold (λ n i. seq_after n (change_on page i)) (seq_of xs page) ys
+seq_of-append xs ys page = fold-append (λ n i. seq_after n (change_on page i)) 0 xs ys
 
 pub last_of-append : (xs ys : List Item) (page : ℕ) →
-    last_of (xs ++ ys) page ≡ fold (λ last i. last_after last (change_of page i)) (last_of xs page) ys
-last_of-append xs ys page = fold-append (λ last i. last_after last (change_of page i)) None xs ys
+    last_of (xs ++ ys) page ≡ fold (λ last i. last_after last (change_on page i)) (last_of xs page) ys
+last_of-append xs ys page = fold-append (λ last i. last_after last (change_on page i)) None xs ys
 
 pub held-append : (m : Machine) (xs ys : List Item) (q entry : ℕ) →
     held m (xs ++ ys) q entry ≡ fold (held_after m q entry) (held m xs q entry) ys
@@ -157,7 +157,7 @@ is_applied (item.Switch s) = false
 abbrev pub all_applied : List Item → Bool
 all_applied xs = list_all is_applied xs
 
-no_change : (page : ℕ) (i : Item) → is_applied i ≡ true → change_of page i ≡ None
+no_change : (page : ℕ) (i : Item) → is_applied i ≡ true → change_on page i ≡ None
 no_change page (item.Access a) h = absurd cc
 no_change page (item.Change c) h = absurd cc
 no_change page (item.Applied x) h = refl
@@ -201,15 +201,15 @@ no_operation q (item.Switch s) h = absurd cc
 
 pub dir_of-applied : (xs ys : List Item) (page : ℕ) → all_applied ys ≡ true → dir_of (xs ++ ys) page ≡ dir_of xs page
 dir_of-applied xs ys page h =
-    fold-append_still (λ d i. dir_after d (change_of page i)) is_applied (λ d i k. ap (dir_after d) (no_change page i k)) empty_dir xs ys h
+    fold-append_still (λ d i. dir_after d (change_on page i)) is_applied (λ d i k. ap (dir_after d) (no_change page i k)) empty_dir xs ys h
 
 pub seq_of-applied : (xs ys : List Item) (page : ℕ) → all_applied ys ≡ true → seq_of (xs ++ ys) page ≡ seq_of xs page
 seq_of-applied xs ys page h =
-    fold-append_still (λ n i. seq_after n (change_of page i)) is_applied (λ n i k. ap (seq_after n) (no_change page i k)) 0 xs ys h
+    fold-append_still (λ n i. seq_after n (change_on page i)) is_applied (λ n i k. ap (seq_after n) (no_change page i k)) 0 xs ys h
 
 pub last_of-applied : (xs ys : List Item) (page : ℕ) → all_applied ys ≡ true → last_of (xs ++ ys) page ≡ last_of xs page
 last_of-applied xs ys page h =
-    fold-append_still (λ last i. last_after last (change_of page i)) is_applied (λ last i k. ap (last_after last) (no_change page i k)) None
+    fold-append_still (λ last i. last_after last (change_on page i)) is_applied (λ last i k. ap (last_after last) (no_change page i k)) None
     xs ys h
 
 pub active-applied : (m : Machine) (xs ys : List Item) (q : ℕ) → all_applied ys ≡ true → active m (xs ++ ys) q ≡ active m xs q
@@ -502,3 +502,22 @@ bad_after-append m answer before n (x ∷ xs) ys =
     first_or : (r : Option Rule) (b other : Option Bad) → bad_at n r (bad_or b other) ≡ bad_or (bad_at n r b) other
     first_or None b other = refl
     first_or (Some r) b other = refl
+
+-- ---- what an access of processor q adds to what is its own
+
+pub values_of-access :
+    (q : ℕ) (a : Access) → a.actor ≡ q → values_of q (item.Access a ∷ []) ≡ (if reads_word a.kind then a.old ∷ [] else [])
+values_of-access q a h = rw (eq-eqb a.actor q h) (by (reads_word a.kind))
+  where
+    by : (b : Bool) → cons_option (if b then Some a.old else None) [] ≡ (if b then a.old ∷ [] else [])
+    by true = refl
+    by false = refl
+
+pub operations_of-access : (q : ℕ) (a : Access) → a.actor ≡ q → operations_of q (item.Access a ∷ []) ≡ Accessed a ∷ []
+operations_of-access q a h = rw (eq-eqb a.actor q h) refl
+
+-- ---- a value that is not there
+
+pub is_none-None : {T : Type 0} (o : Option T) → is_none o ≡ true → o ≡ None
+is_none-None None h = refl
+is_none-None (Some x) h = absurd cc

@@ -25,11 +25,11 @@ use Rattle.plat_base.specs.declared.items.Removed.TheVariants as removed
 use Rattle.plat_base.specs.declared.policies.Decision.{Decision}
 use Rattle.plat_base.specs.declared.policies.Verdict.TheVariants as verdict
 use Rattle.plat_laws.proofs.TableLaws.{cause_of-fault, dir_parts, DecideFacts, decide_facts, ThawFacts, thaw_facts}
-use Rattle.plat_laws.proofs.Limits.{list_all-get_or}
 use Rattle.plat_events.specs.Sessions.{Fault, Stamp, Course, Session, decision_of, insert_near, by_distance, tried, module_tried, going}
 use Rattle.plat_events.specs.Privates.{Private}
 use Rattle.plat_local_laws.specs.Faults.{FaultOk}
 use Rattle.plat_local_laws.specs.Phases.{gives_frames, CourseOk}
+use Rattle.plat_base.proofs.LimitLemmas.{holds_at}
 
 -- ---- the modules that are tried
 
@@ -68,7 +68,7 @@ pub module_tried-below :
     → i < length (tried m answer a now s st) → module_tried m answer a now s st i < m.nodes
 module_tried-below m answer a now s st i l k =
     ltb-true (module_tried m answer a now s st i) m.nodes
-    (list_all-get_or (λ mo. nat_lt mo m.nodes) (tried m answer a now s st) i 0 (tried-below m answer a now s st l) k)
+    (holds_at (λ mo. nat_lt mo m.nodes) (tried m answer a now s st) i 0 (tried-below m answer a now s st l) k)
 
 -- the daemon tries none
 pub tried-thaw :

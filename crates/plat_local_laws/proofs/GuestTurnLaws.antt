@@ -2,7 +2,6 @@
 use Rattle.std.proofs.Common.{◌≡◌, ℕ, ◌+◌, ◌-◌, ◌<◌, ◌≤◌, Bool, true, false, List, [], ◌∷◌, ◌++◌, length, Some, None, refl, arith, add-one}
 use Rattle.std.proofs.Common.{ap, sym, ◌∙◌, ◌⊎◌, inl, inr}
 use Rattle.std.specs.Prelude.{◌==◌, if◌then◌else◌, Option, slice_get}
-use Rattle.std.specs.List.{cons_option}
 use Rattle.std.proofs.lemmas.Bool.{eq-eqb}
 use Rattle.std.proofs.lemmas.List.{append-nil}
 use Rattle.std.proofs.lemmas.List.Elements.{filter-append}
@@ -11,7 +10,7 @@ use Rattle.plat_base.specs.Pages.{program_of}
 use Rattle.plat_base.specs.Alike.{kind_number}
 use Rattle.plat_base.specs.GuestRun.{GuestState, GuestRun, Reach, guest_run, guest_does, want_of, wanted, wanted_next, guest_after}
 use Rattle.plat_base.specs.GuestRun.{executed, executed_next, reach_of, value_for, address, register}
-use Rattle.plat_base.specs.Done.{values_of, operations_of, Accessed, Switched, reads_word, new_value, is_done_access}
+use Rattle.plat_base.specs.Done.{values_of, operations_of, Switched, reads_word, new_value, is_done_access}
 use Rattle.plat_base.specs.declared.guests.Instr.{Instr}
 use Rattle.plat_base.specs.declared.guests.Instr.TheVariants as instr
 use Rattle.plat_base.specs.declared.guests.Want.{Want}
@@ -23,10 +22,10 @@ use Rattle.plat_base.specs.declared.items.Switch.{Switch}
 use Rattle.plat_base.specs.declared.items.Item.{Item}
 use Rattle.plat_base.specs.declared.items.Item.TheVariants as item
 use Rattle.plat_laws.specs.Guests.{IsGuest}
-use Rattle.plat_laws.proofs.GuestLaws.{slice_get-append_at, guest_run-next, guest_run-next_same, values_of-append, values_of-none}
+use Rattle.plat_laws.proofs.GuestLaws.{slice_get-append_at, guest_run-next, guest_run-next_same, values_of-none}
 use Rattle.plat_laws.proofs.GuestLaws.{IsGuest-local, IsGuest-print, IsGuest-access, IsGuest-switch}
 use Rattle.plat_laws.proofs.EndLaws.{IsGuest-no_operations, values_of-no_operations}
-use Rattle.plat_laws.proofs.ItemLaws.{active-switch_own, active-access}
+use Rattle.plat_laws.proofs.ItemLaws.{active-switch_own, active-access, values_of-append, values_of-access, operations_of-access}
 use Rattle.plat_events.specs.Privates.{Private}
 use Rattle.plat_events.specs.Shown.{actor_of, items_by}
 use Rattle.plat_local_laws.specs.Numbers.{is_in_turn, is_before_tick, turns_done, GuestOk}
@@ -241,16 +240,6 @@ value-found m a s kind.Load sp ad o old h = refl
 value-found m a s kind.Store sp ad o old h =
     store-next m (program_of m a) s old 0 sp ad o (slice_get (program_of m a).code s.at) h
 value-found m a s kind.Add sp ad o old h = refl
-
-values_of-access : (a : ℕ) (x : Access) → x.actor ≡ a → values_of a (item.Access x ∷ []) ≡ (if reads_word x.kind then x.old ∷ [] else [])
-values_of-access a x h = rw (eq-eqb x.actor a h) (by (reads_word x.kind) x.old)
-  where
-    by : (b : Bool) (old : ℕ) → cons_option (if b then Some old else None) [] ≡ (if b then old ∷ [] else [])
-    by true old = refl
-    by false old = refl
-
-operations_of-access : (a : ℕ) (x : Access) → x.actor ≡ a → operations_of a (item.Access x ∷ []) ≡ Accessed x ∷ []
-operations_of-access a x h = rw (eq-eqb x.actor a h)
 
 -- the access that this reach makes
 pub is_done-made :

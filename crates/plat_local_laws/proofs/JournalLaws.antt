@@ -1,42 +1,18 @@
 -- the guest of a history is the guest of its actor's part of it
-use Rattle.std.proofs.Common.{◌≡◌, ℕ, false, List, None, refl, sym, subst, length}
-use Rattle.std.specs.Prelude.{◌==◌, Option}
+use Rattle.std.proofs.Common.{◌≡◌, ℕ, List, None, sym, subst, length}
+use Rattle.std.specs.Prelude.{◌==◌}
 use Rattle.plat_base.specs.Machine.{Machine}
 use Rattle.plat_base.specs.Pages.{program_of}
 use Rattle.plat_base.specs.GuestRun.{guest_run, GoesOn}
 use Rattle.plat_base.specs.Done.{value_of, values_of, done_of, operations_of}
 use Rattle.plat_base.specs.Held.{held, held_after, active, active_after}
-use Rattle.plat_base.specs.declared.items.Translation.{Translation}
 use Rattle.plat_base.specs.declared.items.Item.{Item}
 use Rattle.plat_base.specs.declared.items.Item.TheVariants as item
 use Rattle.plat_laws.specs.Guests.{IsGuest}
 use Rattle.plat_laws.proofs.ItemLaws.{fold-filter}
 use Rattle.plat_events.specs.Shown.{actor_of, items_by}
 use Rattle.plat_base.proofs.ListLemmas.{filter_map-filter}
-
-value_of-other : (q : ℕ) (i : Item) → (actor_of i == q) ≡ false → value_of q i ≡ None
-value_of-other q (item.Access a) h = rw h
-value_of-other q (item.Change c) h = refl
-value_of-other q (item.Applied x) h = refl
-value_of-other q (item.Switch s) h = refl
-
-done_of-other : (q : ℕ) (i : Item) → (actor_of i == q) ≡ false → done_of q i ≡ None
-done_of-other q (item.Access a) h = rw h
-done_of-other q (item.Change c) h = refl
-done_of-other q (item.Applied x) h = refl
-done_of-other q (item.Switch s) h = rw h
-
-active_after-other : (q space : ℕ) (i : Item) → (actor_of i == q) ≡ false → active_after q space i ≡ space
-active_after-other q space (item.Access a) h = refl
-active_after-other q space (item.Change c) h = refl
-active_after-other q space (item.Applied x) h = refl
-active_after-other q space (item.Switch s) h = rw h
-
-held_after-other : (m : Machine) (q e : ℕ) (t : Option Translation) (i : Item) → (actor_of i == q) ≡ false → held_after m q e t i ≡ t
-held_after-other m q e t (item.Access a) h = refl
-held_after-other m q e t (item.Change c) h = rw h
-held_after-other m q e t (item.Applied x) h = rw h
-held_after-other m q e t (item.Switch s) h = refl
+use Rattle.plat_events.proofs.ActorLemmas.{value_of-other, done_of-other, active_after-other, held_after-other}
 
 pub values_of-items_by : (q : ℕ) (items : List Item) → values_of q (items_by q items) ≡ values_of q items
 values_of-items_by q items = filter_map-filter (value_of q) (λ i. actor_of i == q) (value_of-other q) items

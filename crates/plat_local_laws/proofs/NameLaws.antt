@@ -22,7 +22,6 @@ use Rattle.plat_base.specs.declared.items.Removed.{Removed}
 use Rattle.plat_base.specs.declared.items.Translation.{Translation}
 use Rattle.plat_base.specs.declared.policies.Decision.{Decision}
 use Rattle.plat_laws.specs.Guests.{IsWithinLimits}
-use Rattle.plat_laws.proofs.Limits.{list_all-get_or}
 use Rattle.plat_laws.proofs.GuestLaws.{reach_of-word}
 use Rattle.plat_laws.proofs.TableLaws.{list_all_copy_on, copy_on-nearest, dir_parts, has_some}
 use Rattle.plat_events.specs.Words.{has_reference}
@@ -45,6 +44,7 @@ use Rattle.plat_local_laws.proofs.CourseLaws.{IsActor, module_tried-below, fault
 use Rattle.plat_local_laws.proofs.TurnLaws.{reach_now-wanted}
 use Rattle.plat_local_laws.proofs.SessionLaws.{session_at, entry_now-below}
 use Rattle.plat_local_laws.proofs.StandingLaws.{actor-is, standing_ok}
+use Rattle.plat_base.proofs.LimitLemmas.{holds_at}
 
 -- ---- tests of all elements
 
@@ -97,7 +97,7 @@ zip-all p (x ∷ xs) (y ∷ ys) h =
 entry_at-below : (test : ℕ → Bool) (n i : ℕ) → i < length (filter test (numbers n)) → nat_lt (slice_index (filter test (numbers n)) i) n
     ≡ true
 entry_at-below test n i l =
-    list_all-get_or (λ e. nat_lt e n) (filter test (numbers n)) i 0 (filter-all (λ e. nat_lt e n) test (numbers n) (numbers-below n)) l
+    holds_at (λ e. nat_lt e n) (filter test (numbers n)) i 0 (filter-all (λ e. nat_lt e n) test (numbers n) (numbers-below n)) l
 
 -- the entry that a scan looks at is of its space, and the entry of a post is of its page
 pub entry_scanned-is :
@@ -107,7 +107,7 @@ entry_scanned-is m p i l =
     let test = λ (e : ℕ). space_of m e == p.guest.space in (
       ltb-true (entry_scanned m p i) (entry_count m) (entry_at-below test (length m.entries) i l),
       eqb-true (space_of m (entry_scanned m p i)) p.guest.space
-          (list_all-get_or test (entries_of_space m p.guest.space) i 0 (filter-passes test (numbers (length m.entries))) l),
+          (holds_at test (entries_of_space m p.guest.space) i 0 (filter-passes test (numbers (length m.entries))) l),
     )
 
 pub entry_posted-is :
@@ -117,7 +117,7 @@ entry_posted-is m page posts l =
     let test = λ (e : ℕ). page_of m e == page in (
       ltb-true (entry_posted m page posts) (entry_count m) (entry_at-below test (length m.entries) (length posts) l),
       eqb-true (page_of m (entry_posted m page posts)) page
-          (list_all-get_or test (entries_of_page m page) (length posts) 0 (filter-passes test (numbers (length m.entries))) l),
+          (holds_at test (entries_of_page m page) (length posts) 0 (filter-passes test (numbers (length m.entries))) l),
     )
 
 -- ---- targets
@@ -149,7 +149,7 @@ pub target_at-below :
 unfolding is_target_below
 target_at-below m a page posts k l =
     and_parts (nat_lt (target_at m a page posts k).entry (entry_count m)) (nat_lt (target_at m a page posts k).processor m.nodes)
-    (list_all-get_or (is_target_below m) (targets m a page posts) k no_target (targets-below m a page posts) l)
+    (holds_at (is_target_below m) (targets m a page posts) k no_target (targets-below m a page posts) l)
 
 shot-names :
     (m : Machine) (a page : ℕ) (rem : Removed) (posts : List ℕ) (shot : Shot) → ShotOk m a page posts shot
@@ -219,7 +219,7 @@ nearest-frame m node b h e =
 pub going-frame : (m : Machine) (b : Dir) (d : Decision) (k : ℕ) → is_dir m b ≡ true → k < length (going b d) →
     is_frame m (frame_going b d k) ≡ true
 going-frame m b d k h l =
-    list_all-get_or (is_frame m) (going b d) k no_frame
+    holds_at (is_frame m) (going b d) k no_frame
     (filter-all (is_frame m) (λ f. not (list_any (same_frame f) d.after.copies)) b.copies (dir_parts m b h).0) l
 
 -- ---- sessions

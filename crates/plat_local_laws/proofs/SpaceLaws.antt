@@ -13,7 +13,8 @@ use Rattle.plat_base.specs.declared.guests.Instr.TheVariants as instr
 use Rattle.plat_base.specs.declared.guests.Want.TheVariants as want
 use Rattle.plat_base.specs.declared.items.Kind.{Kind}
 use Rattle.plat_laws.specs.Guests.{IsWithinLimits}
-use Rattle.plat_laws.proofs.Limits.{list_all-get_or, guests-count}
+use Rattle.plat_laws.proofs.Limits.{guests-count}
+use Rattle.plat_base.proofs.LimitLemmas.{holds_at}
 
 access_no_switch : (b : Bool) (k : Kind) (sp ad o space : ℕ) → (if b then want.Access k sp ad o else want.Trap) ≡ want.Switch space →
     nat_lt space SPACES ≡ true
@@ -55,7 +56,7 @@ is_program-parts p h = grind (arith, nat_tests)
 
 program-is : (m : Machine) (q : ℕ) → IsWithinLimits m → q < m.nodes → is_program (program_of m q) ≡ true
 program-is m q h l =
-    list_all-get_or is_program m.guests q no_program (list_all-get_or (λ b. b) (limits m) 14 true h (omega arith))
+    holds_at is_program m.guests q no_program (holds_at (λ b. b) (limits m) 14 true h (omega arith))
     (omega (arith, guests-count m h))
 
 -- the instructions of a guest are within the limits

@@ -21,7 +21,7 @@ use Rattle.plat_base.specs.declared.guests.Want.{Want}
 use Rattle.plat_base.specs.declared.guests.Want.TheVariants as want
 use Rattle.plat_laws.specs.Guests.{IsWithinLimits}
 use Rattle.plat_laws.proofs.GuestLaws.{space-guest_after, space_after}
-use Rattle.plat_laws.proofs.Limits.{list_all-get_or, budget-some}
+use Rattle.plat_laws.proofs.Limits.{budget-some}
 use Rattle.plat_events.specs.Words.{dir_read, is_locked}
 use Rattle.plat_events.specs.Places.{entry_count, is_dir_word}
 use Rattle.plat_events.specs.Sessions.{Fault, Phase, Stamping, Returning}
@@ -40,6 +40,7 @@ use Rattle.plat_local_laws.proofs.PmapLaws.{with_translation, TranslationsOk, Tr
 use Rattle.plat_local_laws.proofs.TurnLaws.{standing-at, turn_over-ok, scan_from-ok, poll_place-ok, look_place-ok, reach_now-wanted}
 use Rattle.plat_local_laws.proofs.TurnLaws.{WantsAccess-from, look_up-ok}
 use Rattle.plat_local_laws.proofs.SessionLaws.{HereOk, thaw-locked, session_at, session-step}
+use Rattle.plat_base.proofs.LimitLemmas.{holds_at}
 
 -- ---- one step of each kind
 
@@ -142,7 +143,7 @@ locked-ok m answer a p fault n here h e =
     frozen_by false d q = absurd (true≢false (sym (and_from (a == m.nodes) true (eq-eqb a m.nodes d) refl) ∙ q))
 
 pages-some : (m : Machine) → IsWithinLimits m → 0 < m.pages
-pages-some m h = let l = list_all-get_or (λ b. b) (limits m) 3 true h (omega arith) in grind (arith, nat_tests)
+pages-some m h = let l = holds_at (λ b. b) (limits m) 3 true h (omega arith) in grind (arith, nat_tests)
 
 pass-step :
     (m : Machine) (answer : Answer) (a : ℕ) (p : Private) (n : ℕ) → HereOk m a p → a ≡ m.nodes → StandingOk m answer a (pass_begun p n)

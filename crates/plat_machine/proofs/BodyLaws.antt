@@ -1,17 +1,17 @@
 -- a guest's lines: what is read is spelled so, and what is spelled so is read
-use Rattle.std.proofs.Common.{◌≡◌, ℕ, zero, suc, ◌+◌, ◌<◌, ◌≤◌, Bool, true, false, not, ◌&&◌, ◌||◌, cond, leb, List, [], ◌∷◌, ◌++◌, length}
-use Rattle.std.proofs.Common.{map, Option, Some, None, option_map, Result, Ok, Err, codes, bytes_eq, refl, ap, sym, ◌∙◌, subst, arith}
-use Rattle.std.proofs.Common.{⊎_elim, append_assoc, append-nil, length-append}
+use Rattle.std.proofs.Common.{◌≡◌, ℕ, ◌+◌, ◌<◌, ◌≤◌, Bool, true, false, cond, leb, List, [], ◌∷◌, ◌++◌, length}
+use Rattle.std.proofs.Common.{map, Result, Ok, Err, codes, bytes_eq, refl, ap, sym, ◌∙◌, subst, arith}
+use Rattle.std.proofs.Common.{⊎_elim, append_assoc, append-nil}
 use Rattle.std.specs.List.{AllByRecursion, list_any}
-use Rattle.std.proofs.lemmas.Bool.{cases_Bool, or_parts, or_from, leb-false, lt-leb}
+use Rattle.std.proofs.lemmas.Bool.{cases_Bool, leb-false, lt-leb}
 use Rattle.std.proofs.lemmas.Bool.Decides.{same_from_decides}
 use Rattle.std.proofs.lemmas.List.{length_push}
 use Rattle.std.proofs.lemmas.Slice.Eq.{bytes_eq-Decides}
 use Rattle.plat_grammar.specs.Lines.{Word, texts}
 use Rattle.plat_base.specs.Labels.{is_label_name}
 use Rattle.plat_base.specs.Machine.{all_differ, same_name, is_instr}
-use Rattle.plat_base.specs.Canon.{Words, instr_words, label_words}
-use Rattle.plat_grammar.specs.Forms.{◌>>=◌, Row, Rest, Stop, word_at, first_word, row_length, one, nothing, ◌·◌, made, once}
+use Rattle.plat_base.specs.Canon.{Words, instr_words}
+use Rattle.plat_grammar.specs.Forms.{Row, Rest, Stop, word_at, first_word, one, nothing, ◌·◌, made, once}
 use Rattle.plat_grammar.specs.FirstFault.{name_after, label_line, body_line, ends_guest, body_from}
 use Rattle.plat_grammar.specs.Drafts.{Draft, name_of, instruction_line}
 use Rattle.plat_base.specs.declared.faults.Refused.{Refused}
@@ -20,7 +20,7 @@ use Rattle.plat_base.specs.declared.faults.Why.TheVariants as why
 use Rattle.plat_base.specs.declared.guests.Label.{Label}
 use Rattle.plat_base.specs.declared.guests.Instr.{Instr}
 use Rattle.plat_base.specs.declared.guests.Instr.TheVariants as instr
-use Rattle.plat_text.proofs.Results.{taking, then_ok, ok_is, ok_first, ok_second, stopped}
+use Rattle.plat_text.proofs.Results.{taking, then_ok, ok_is, ok_first, ok_second}
 use Rattle.plat_text.proofs.WordLaws.{IsWordForm}
 use Rattle.plat_text.proofs.FormLemmas.{word_taken}
 use Rattle.plat_text.proofs.FormLaws.{row_texts, IsTail, one-law, nothing-law, before-law, word_there, texts_taken}
@@ -136,8 +136,8 @@ one_more drafts labels (place l) h f = record {
   differ = differ-push same_name same_name-symmetric labels l h.differ f.1;
 }
 
-abbrev pub here : Stop → ℕ → List Row → Rest
-here stop given rows = record { given = given; rows = rows; stop = stop }
+abbrev pub here : Stop → List Row → Rest
+here stop rows = record { rows = rows; stop = stop }
 
 -- the lines that were read
 pub record ReadsBody (drafts : List Draft) (labels : List Label) (rest after : Rest) (ds : List Draft) (ls : List Label) : Type 0 where
@@ -169,18 +169,18 @@ add_mark drafts labels a b c ds ls (place l) f t u = record {
   body = λ h. u.body (one_more drafts labels (place l) h f);
 }
 
-pub body-takes : (stop : Stop) (given : ℕ) (drafts : List Draft) (labels : List Label) (rows : List Row) (ds : List Draft) (ls : List Label)
+pub body-takes : (stop : Stop) (drafts : List Draft) (labels : List Label) (rows : List Row) (ds : List Draft) (ls : List Label)
     (after : Rest)
-    → body_from stop given drafts labels rows ≡ Ok ((ds, ls), after) → ReadsBody drafts labels (here stop given rows) after ds ls
+    → body_from stop drafts labels rows ≡ Ok ((ds, ls), after) → ReadsBody drafts labels (here stop rows) after ds ls
 unfolding body_from
-body-takes stop given drafts labels [] ds ls after e = cc
-body-takes stop given drafts labels (row ∷ rows) ds ls after e = taking (first_word row) _ _ e (λ w w-is e1. ⊎_elim
+body-takes stop drafts labels [] ds ls after e = cc
+body-takes stop drafts labels (row ∷ rows) ds ls after e = taking (first_word row) _ _ e (λ w w-is e1. ⊎_elim
     (λ t.
-    let e2 : ◌≡◌ {A = Result ((List Draft × List Label) × Rest) Refused} (Ok ((drafts, labels), here stop given (row ∷ rows)))
+    let e2 : ◌≡◌ {A = Result ((List Draft × List Label) × Rest) Refused} (Ok ((drafts, labels), here stop (row ∷ rows)))
     (Ok ((ds, ls), after)) = rw t at e1 in
     let same : ◌≡◌ {A = List Draft × List Label} (drafts, labels) (ds, ls) =
-    ok_first ((drafts, labels), here stop given (row ∷ rows)) ((ds, ls), after) e2 in
-    let left : here stop given (row ∷ rows) ≡ after = ok_second ((drafts, labels), here stop given (row ∷ rows)) ((ds, ls), after) e2 in
+    ok_first ((drafts, labels), here stop (row ∷ rows)) ((ds, ls), after) e2 in
+    let left : here stop (row ∷ rows) ≡ after = ok_second ((drafts, labels), here stop (row ∷ rows)) ((ds, ls), after) e2 in
     let drafts_same : drafts ≡ ds = ap (λ p. p.0) same in
     let labels_same : labels ≡ ls = ap (λ p. p.1) same in
     record {
@@ -188,17 +188,17 @@ body-takes stop given drafts labels (row ∷ rows) ds ls after e = taking (first
       drafts_are = sym drafts_same ∙ sym (append-nil drafts);
       labels_are = sym labels_same ∙ sym (append-nil labels);
       in_order = tt;
-      took = rw (← left) (took_none (here stop given (row ∷ rows)));
+      took = rw (← left) (took_none (here stop (row ∷ rows)));
       body = λ h. rw (← drafts_same, ← labels_same) h;
     })
     (λ t. taking (body_line drafts labels row) _ _ (rw t at e1) (λ b b-is e2.
     let u = body_line-takes drafts labels row b b-is in
     let e3 = rw u.1 at e2 in
-    let next = body-takes stop (given + row_length row) (added drafts labels u.0).0 (added drafts labels u.0).1 rows ds ls after e3 in
-    let first : Took (here stop given (row ∷ rows)) (here stop (given + row_length row) rows) (draft_mark_words u.0 ∷ []) =
-    rw (← u.2) (took_row (here stop given (row ∷ rows)) row (here stop (given + row_length row) rows)
-    (record { rows = refl; stop = refl; given = refl })) in
-    add_mark drafts labels (here stop given (row ∷ rows)) (here stop (given + row_length row) rows) after ds ls u.0 u.3 first next))
+    let next = body-takes stop (added drafts labels u.0).0 (added drafts labels u.0).1 rows ds ls after e3 in
+    let first : Took (here stop (row ∷ rows)) (here stop rows) (draft_mark_words u.0 ∷ []) =
+    rw (← u.2) (took_row (here stop (row ∷ rows)) row (here stop rows)
+    (record { rows = refl; stop = refl })) in
+    add_mark drafts labels (here stop (row ∷ rows)) (here stop rows) after ds ls u.0 u.3 first next))
     (cases_Bool (ends_guest w.bytes)))
 
 -- ---- and read again
@@ -251,34 +251,34 @@ module _ (names : ℕ → List ℕ) (n : ℕ) (spelled : (l : ℕ) → l < n →
   abbrev lines_of_marks : List (Mark Instr) → List Words
   lines_of_marks ms = map (λ m. mark_words (instr_words names) m) ms
 
-  pub body-again : (ms : List (Mark Instr)) (given : ℕ) (drafts : List Draft) (labels : List Label) (rows : List Row)
+  pub body-again : (ms : List (Mark Instr)) (drafts : List Draft) (labels : List Label) (rows : List Row)
       → AllByRecursion (λ i. is_instr n i ≡ true) (codes_of ms) → AllByRecursion (λ l. is_label_name l.name ≡ true) (places_of ms) →
       all_differ same_name (labels ++ places_of ms) ≡ true
       → length drafts + length (codes_of ms) ≤ 4096 → length labels + length (places_of ms) ≤ 256 → AreInOrder (length drafts) ms
-      → row_lists rows ≡ lines_of_marks ms ++ more → BodyAgain names (body_from stop given drafts labels rows) drafts labels ms more
+      → row_lists rows ≡ lines_of_marks ms ++ more → BodyAgain names (body_from stop drafts labels rows) drafts labels ms more
   unfolding body_from body_line label_line
-  body-again [] given drafts labels [] fit spell apart few_code few_labels order e = absurd (subst EndsGuest (sym e) ends)
-  body-again [] given drafts labels (row ∷ rows) fit spell apart few_code few_labels order e =
+  body-again [] drafts labels [] fit spell apart few_code few_labels order e = absurd (subst EndsGuest (sym e) ends)
+  body-again [] drafts labels (row ∷ rows) fit spell apart few_code few_labels order e =
       by_words row.words (subst EndsGuest (sym e) ends) e where
         by_words : (ws : List Word) → EndsGuest (texts ws ∷ row_lists rows) → texts ws ∷ row_lists rows ≡ more
-            → BodyAgain names (body_from stop given drafts labels (record row { words = ws } ∷ rows)) drafts labels [] more
+            → BodyAgain names (body_from stop drafts labels (record row { words = ws } ∷ rows)) drafts labels [] more
         by_words [] t e = absurd t
         by_words (w ∷ ws) t e = record {
           ds = [];
-          after = here stop given (record row { words = w ∷ ws } ∷ rows);
+          after = here stop (record row { words = w ∷ ws } ∷ rows);
           reads = rw (t, append-nil, append-nil) refl;
           named_as = refl;
           lists = e;
         }
-  body-again (does i ∷ ms) given drafts labels [] fit spell apart few_code few_labels order e = absurd cc
-  body-again (place l ∷ ms) given drafts labels [] fit spell apart few_code few_labels order e = absurd cc
-  body-again (does i ∷ ms) given drafts labels (row ∷ rows) fit spell apart few_code few_labels order e =
+  body-again (does i ∷ ms) drafts labels [] fit spell apart few_code few_labels order e = absurd cc
+  body-again (place l ∷ ms) drafts labels [] fit spell apart few_code few_labels order e = absurd cc
+  body-again (does i ∷ ms) drafts labels (row ∷ rows) fit spell apart few_code few_labels order e =
       let first : row_texts row ≡ instr_words names i = cc in
       let others : row_lists rows ≡ lines_of_marks ms ++ more = cc in
       let key = instr-key names i in
       let t = word_there row key.key key.others (first ∙ key.parts) in
       let d = instruction-again (length drafts) (omega (arith, few_code)) names n spelled row i fit.0 first in
-      let next = body-again ms (given + row_length row) (drafts ++ d.0 ∷ []) labels rows fit.1 spell apart
+      let next = body-again ms (drafts ++ d.0 ∷ []) labels rows fit.1 spell apart
       (omega (arith, few_code, length_push drafts d.0)) few_labels (subst (λ k. AreInOrder k ms) (sym (length_push drafts d.0)) order)
       others in
       record {
@@ -292,7 +292,7 @@ module _ (names : ℕ → List ℕ) (n : ℕ) (spelled : (l : ℕ) → l < n →
         named_as = rw (d.2, next.named_as) refl;
         lists = next.lists;
       }
-  body-again (place l ∷ ms) given drafts labels (row ∷ rows) fit spell apart few_code few_labels order e =
+  body-again (place l ∷ ms) drafts labels (row ∷ rows) fit spell apart few_code few_labels order e =
       let first : row_texts row ≡ codes "label" ∷ l.name ∷ [] = cc in
       let others : row_lists rows ≡ lines_of_marks ms ++ more = cc in
       let t = word_there row (codes "label") (l.name ∷ []) first in
@@ -302,7 +302,7 @@ module _ (names : ℕ → List ℕ) (n : ℕ) (spelled : (l : ℕ) → l < n →
         spell.0,
         omega (arith, few_labels),
       ) refl alone t.4 in
-      let next = body-again ms (given + row_length row) drafts (labels ++ l ∷ []) rows fit spell.1 (rw append_assoc apart)
+      let next = body-again ms drafts (labels ++ l ∷ []) rows fit spell.1 (rw append_assoc apart)
       few_code (omega (arith, few_labels, length_push labels l)) order.1 others in
       record {
         ds = next.ds;

@@ -1,27 +1,24 @@
 -- guests: what is read is spelled so, and what is spelled so is read
-use Rattle.std.proofs.Common.{◌≡◌, ℕ, zero, suc, ◌+◌, ◌^◌, ◌<◌, ◌≤◌, Bool, true, false, ◌&&◌, leb, ltb, List, [], ◌∷◌, ◌++◌, length, map}
-use Rattle.std.proofs.Common.{Option, Result, Ok, Err, codes, refl, ap, sym, ◌∙◌, subst, arith, append_assoc, append-nil}
+use Rattle.std.proofs.Common.{◌≡◌, ℕ, zero, suc, ◌+◌, ◌<◌, ◌≤◌, Bool, true, ◌&&◌, leb, ltb, List, [], ◌∷◌, ◌++◌, length, map}
+use Rattle.std.proofs.Common.{Ok, codes, refl, ap, sym, ◌∙◌, subst, arith, append_assoc, append-nil}
 use Rattle.std.specs.Fmt.{decimal}
-use Rattle.std.specs.List.{AllByRecursion, list_all, flat_map, slice_index_or}
+use Rattle.std.specs.List.{AllByRecursion, list_all, flat_map}
 use Rattle.std.proofs.lemmas.Bool.{and_parts, and_from, leb-true, le-leb, lt-ltb, ltb-true}
-use Rattle.std.proofs.lemmas.List.{length-map}
-use Rattle.plat_base.specs.GuestRun.{no_label}
 use Rattle.plat_base.specs.Labels.{is_label_name}
 use Rattle.plat_base.specs.Machine.{Program, is_program, is_instr, is_spelled, all_differ, same_name, labels_rise}
 use Rattle.plat_base.specs.Canon.{Words, instr_words, label_name, with_labels, program_lines}
-use Rattle.plat_grammar.specs.Forms.{◌>>=◌, Rest, line_at}
-use Rattle.plat_grammar.specs.FirstFault.{number_line, body_at, body_from, guest_at, guests_from}
+use Rattle.plat_grammar.specs.Forms.{Rest, line_at}
+use Rattle.plat_grammar.specs.FirstFault.{number_line, body_at, guest_at, guests_from}
 use Rattle.plat_grammar.specs.Drafts.{Draft, code_from}
-use Rattle.plat_base.specs.declared.faults.Refused.{Refused}
 use Rattle.plat_base.specs.declared.guests.Label.{Label}
 use Rattle.plat_base.specs.declared.guests.Instr.{Instr}
-use Rattle.plat_text.proofs.Results.{taking, then_ok, ok_is, ok_first, ok_second}
+use Rattle.plat_text.proofs.Results.{taking, then_ok, ok_first, ok_second}
 use Rattle.plat_text.proofs.SectionLaws.{rest_lists, Took, took_none, took_then, IsSection, line-law, again_exactly}
 use Rattle.plat_machine.proofs.HeaderLaws.{number_line-law}
-use Rattle.plat_machine.proofs.InstrLaws.{named, named_words, NamedFits, named_by}
+use Rattle.plat_machine.proofs.InstrLaws.{named, named_words, named_by}
 use Rattle.plat_machine.proofs.MarkLaws.{Mark, codes_of, places_of, mark_words, AreInOrder, with_labels-marks, rise-marks, marks_of}
 use Rattle.plat_machine.proofs.MarkLaws.{codes-marks, places-marks, in_order-marks}
-use Rattle.plat_machine.proofs.BodyLaws.{IsBody, no_body, ReadsBody, body-takes, EndsGuest, BodyAgain, body-again}
+use Rattle.plat_machine.proofs.BodyLaws.{no_body, body-takes, EndsGuest, body-again}
 use Rattle.plat_machine.proofs.LinkLaws.{code-takes, code-again}
 use Rattle.plat_base.proofs.ListLemmas.{all-from}
 
@@ -102,7 +99,7 @@ guest-takes rest p after e =
     let value : ◌≡◌ {A = Program} (record { space = s.0; code = code; labels = b.0.1 }) p = ok_first _ (p, after) e3 in
     let left : b.1 ≡ after = ok_second _ (p, after) e3 in
     let t = space-section.takes rest s.0 s.1 s-is in
-    let u = body-takes s.1.stop s.1.given [] [] s.1.rows b.0.0 b.0.1 b.1 b-is in
+    let u = body-takes s.1.stop [] [] s.1.rows b.0.0 b.0.1 b.1 b-is in
     let body = u.body no_body in
     let c = code-takes b.0.1 [] b.0.0 code body.fits code-is in
     let words : map (λ i. instr_words (label_name b.0.1) i) code ≡ map draft_words b.0.0 =
@@ -148,7 +145,7 @@ guest-again rest p more fits ends e =
     ∙ ap (λ k. with_labels 0 (map (instr_words names) p.code) k) labels_are in
     let t = again_exactly space-section rest p.space (with_labels 0 (map (instr_words names) p.code) p.labels ++ more)
     (omega arith, parts.space) tt e in
-    let u = body-again names (length p.labels) (name_at p.labels parts.names) more ends t.0.stop ms t.0.given [] [] t.0.rows
+    let u = body-again names (length p.labels) (name_at p.labels parts.names) more ends t.0.stop ms [] [] t.0.rows
     (rw code_is (all-bools (is_instr (length p.labels)) p.code parts.instrs)) (rw labels_are parts.names) (rw labels_are parts.differ)
     (omega (arith, ap length code_is, parts.code)) (omega (arith, ap length labels_are, parts.few)) order
     (t.2 ∙ ap (λ k. k ++ more) (sym lines)) in

@@ -13,4 +13,5 @@ pub mod PrintLimits
 pub mod PrintLines
 pub mod PrintLabels
 pub mod PrintParts
+pub mod ShortLemmas
 pub mod PlainCanon

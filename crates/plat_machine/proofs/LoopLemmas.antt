@@ -1,17 +1,17 @@
 -- one step of the loops over a guest's lines, over its instructions, and over the guests
-use Rattle.std.proofs.Common.{◌≡◌, ℕ, suc, zero, ◌+◌, ◌-◌, ◌<◌, ◌≤◌, Bool, true, false, cond, List, [], ◌∷◌, ◌++◌, length, take, drop}
-use Rattle.std.proofs.Common.{get_or, map, Result, Ok, Err, refl, ap, sym, ◌∙◌, arith, ⊎_elim}
-use Rattle.std.proofs.lemmas.Bool.{cases_Bool}
+use Rattle.std.proofs.Common.{◌≡◌, ℕ, suc, ◌+◌, ◌-◌, ◌<◌, ◌≤◌, true, false, cond, List, [], ◌∷◌, ◌++◌, length, drop}
+use Rattle.std.proofs.Common.{get_or, Result, Ok, Err, refl, ap, ◌∙◌, arith}
 use Rattle.std.proofs.lemmas.List.{at_drop_more, at_drop_all}
 use Rattle.plat_grammar.specs.Lines.{Word}
-use Rattle.plat_grammar.specs.Forms.{◌>>=◌, Row, Rest, Stop, row_at, first_word, word_ahead, row_length}
+use Rattle.plat_grammar.specs.Forms.{◌>>=◌, Row, Rest, row_at, word_ahead, Fails}
 use Rattle.plat_grammar.specs.FirstFault.{body_from, body_line, ends_guest, guest_at, guests_from}
-use Rattle.plat_grammar.specs.Drafts.{Draft, Target, linked, code_from}
-use Rattle.plat_base.specs.Machine.{Program, program_seen, programs_seen}
+use Rattle.plat_grammar.specs.Drafts.{Draft, linked, code_from}
+use Rattle.plat_base.specs.Machine.{Program}
 use Rattle.plat_base.specs.declared.faults.Refused.{Refused}
+use Rattle.plat_base.specs.declared.faults.TextFault.{TextFault}
+use Rattle.plat_base.specs.declared.faults.TextFault.TheVariants as fault
 use Rattle.plat_base.specs.declared.guests.Label.{Label}
 use Rattle.plat_base.specs.declared.guests.Instr.{Instr}
-use Rattle.plat_base.specs.declared.guests.GuestText.{GuestText}
 use Rattle.plat_text.proofs.FormLemmas.{row_taken}
 use Rattle.plat_machine.specs.Shown.{draft, drafts}
 use Rattle.plat_machine.specs.declared.instructions.Draft.{Draft as Read}
@@ -22,45 +22,52 @@ use Rattle.plat_base.proofs.LimitLemmas.{programs_seen-push}
 module _ (drafts : List Draft) (labels : List Label) where
   -- what a line adds, and what follows
   abbrev pub body_after : Row × Rest → Result ((List Draft × List Label) × Rest) Refused
-  body_after r = body_line drafts labels r.0 >>= λ b. body_from r.1.stop r.1.given b.0 b.1 r.1.rows
+  body_after r = body_line drafts labels r.0 >>= λ b. body_from r.1.stop b.0 b.1 r.1.rows
 
-  body-step : (rest : Rest) → body_from rest.stop rest.given drafts labels rest.rows
+  body-step : (rest : Rest) → body_from rest.stop drafts labels rest.rows
       ≡ (word_ahead rest >>= λ w. cond (ends_guest w.bytes) (Ok ((drafts, labels), rest)) (row_at rest >>= body_after))
   unfolding body_from
   body-step rest = by_rows rest.rows where
-    by_rows : (rows : List Row) → body_from rest.stop rest.given drafts labels rows
+    by_rows : (rows : List Row) → body_from rest.stop drafts labels rows
         ≡ (word_ahead (record rest { rows = rows }) >>= λ w. cond (ends_guest w.bytes) (Ok ((drafts, labels), record rest { rows = rows }))
         (row_at (record rest { rows = rows }) >>= body_after))
     by_rows [] = refl
     by_rows (row ∷ rows) = by_words row.words where
-      by_words : (ws : List Word) → body_from rest.stop rest.given drafts labels (record row { words = ws } ∷ rows)
+      by_words : (ws : List Word) → body_from rest.stop drafts labels (record row { words = ws } ∷ rows)
           ≡ (word_ahead (record rest { rows = record row { words = ws } ∷ rows }) >>= λ w.
           cond (ends_guest w.bytes) (Ok ((drafts, labels), record rest { rows = record row { words = ws } ∷ rows }))
           (row_at (record rest { rows = record row { words = ws } ∷ rows }) >>= body_after))
       by_words [] = refl
       by_words (w ∷ ws) = refl
 
-  pub body-none : (rest : Rest) (fault : Refused) → word_ahead rest ≡ Err fault → body_from rest.stop rest.given drafts labels rest.rows
+  pub body-none : (rest : Rest) (fault : Refused) → word_ahead rest ≡ Err fault → body_from rest.stop drafts labels rest.rows
       ≡ Err fault
   body-none rest fault e = body-step rest ∙ (rw e refl)
 
   pub body-end : (rest : Rest) (w : Word) → word_ahead rest ≡ Ok w → ends_guest w.bytes ≡ true →
-      body_from rest.stop rest.given drafts labels rest.rows ≡ Ok ((drafts, labels), rest)
+      body_from rest.stop drafts labels rest.rows ≡ Ok ((drafts, labels), rest)
   body-end rest w e t = body-step rest ∙ (rw (e, t) refl)
 
   pub body-more : (rest : Rest) (w : Word) (row : Row) (after : Rest) (b : List Draft × List Label) → word_ahead rest ≡ Ok w →
       ends_guest w.bytes ≡ false → row_at rest ≡ Ok (row, after) → body_line drafts labels row ≡ Ok b
-      → body_from rest.stop rest.given drafts labels rest.rows ≡ body_from after.stop after.given b.0 b.1 after.rows
+      → body_from rest.stop drafts labels rest.rows ≡ body_from after.stop b.0 b.1 after.rows
   body-more rest w row after b e t r l = body-step rest ∙ (rw (e, t, r, l) refl)
 
   pub body-wrong : (rest : Rest) (w : Word) (row : Row) (after : Rest) (fault : Refused) → word_ahead rest ≡ Ok w →
       ends_guest w.bytes ≡ false → row_at rest ≡ Ok (row, after) → body_line drafts labels row ≡ Err fault
-      → body_from rest.stop rest.given drafts labels rest.rows ≡ Err fault
+      → body_from rest.stop drafts labels rest.rows ≡ Err fault
   body-wrong rest w row after fault e t r l = body-step rest ∙ (rw (e, t, r, l) refl)
+
+  -- the same of a line's fault, where want of memory claims nothing
+  pub body-fails : (rest : Rest) (w : Word) (row : Row) (after : Rest) (e : TextFault) → word_ahead rest ≡ Ok w →
+      ends_guest w.bytes ≡ false → row_at rest ≡ Ok (row, after) → Fails e (body_line drafts labels row)
+      → Fails e (body_from rest.stop drafts labels rest.rows)
+  body-fails rest w row after (fault.Refused r) e t f h = body-wrong rest w row after r e t f h
+  body-fails rest w row after fault.OutOfMemory e t f h = tt
 
   pub body-no_row : (rest : Rest) (w : Word) (fault : Refused) → word_ahead rest ≡ Ok w → ends_guest w.bytes ≡ false →
       row_at rest ≡ Err fault
-      → body_from rest.stop rest.given drafts labels rest.rows ≡ Err fault
+      → body_from rest.stop drafts labels rest.rows ≡ Err fault
   body-no_row rest w fault e t r = body-step rest ∙ (rw (e, t, r) refl)
 
 pub fewer_rows : (rest : Rest) (row : Row) (after : Rest) → row_at rest ≡ Ok (row, after) → length after.rows < length rest.rows

@@ -1,17 +1,16 @@
 -- a whole machine text: what is read is its canonical lines, and what has them is read
-use Rattle.std.proofs.Common.{◌≡◌, ℕ, zero, suc, ◌+◌, ◌-◌, ◌^◌, ◌<◌, ◌≤◌, Bool, true, false, ◌&&◌, cond, eqb, leb, List, [], ◌∷◌, ◌++◌}
-use Rattle.std.proofs.Common.{length, map, take, drop, Option, Some, None, Result, Ok, Err, codes, IsTrue, refl, ap, sym, ◌∙◌, subst, arith}
-use Rattle.std.proofs.Common.{append_assoc, append-nil, length-append}
+use Rattle.std.proofs.Common.{◌≡◌, ℕ, suc, ◌+◌, ◌^◌, ◌<◌, ◌≤◌, Bool, true, false, cond, eqb, List, [], ◌∷◌, ◌++◌}
+use Rattle.std.proofs.Common.{length, map, drop, Ok, Err, codes, IsTrue, refl, ap, sym, ◌∙◌, arith}
+use Rattle.std.proofs.Common.{append_assoc}
 use Rattle.std.specs.Fmt.{decimal}
 use Rattle.std.specs.List.{AllByRecursion, list_all, flat_map}
-use Rattle.std.proofs.lemmas.Bool.{and_parts, and_from, eqb-true, eq-eqb, not_from_false}
+use Rattle.std.proofs.lemmas.Bool.{and_parts, eqb-true, eq-eqb, not_from_false}
 use Rattle.std.proofs.lemmas.Bool.Decides.{nat_tests}
 use Rattle.plat_base.specs.Machine.{Machine, Program, Turns, robin, random, listed, limits, is_machine, is_within, is_page_size, is_policy}
 use Rattle.plat_base.specs.Machine.{is_schedule, is_distance, is_entry, is_init, is_program, all_differ, same_nodes, same_place, same_word}
-use Rattle.plat_base.specs.Text.{text_bytes}
-use Rattle.plat_base.specs.Canon.{Words, canon, canon_text, is_short, most_bytes, policy_words, schedule_words, distance_words, entry_words}
-use Rattle.plat_base.specs.Canon.{init_words, instr_words, label_words, label_name, with_labels, program_lines}
-use Rattle.plat_grammar.specs.Forms.{◌>>=◌, Row, Rest, row_at, word_at, one, exactly, read_as, nothing, refused}
+use Rattle.plat_base.specs.Canon.{Words, canon, is_short, policy_words, schedule_words, distance_words, entry_words}
+use Rattle.plat_base.specs.Canon.{init_words, program_lines}
+use Rattle.plat_grammar.specs.Forms.{◌>>=◌, Row, Rest, row_at, word_at, exactly, read_as, nothing, refused}
 use Rattle.plat_grammar.specs.FirstFault.{Header, header_at, distances_at, entries_at, inits_at, guests_from, end_line, machine_with}
 use Rattle.plat_grammar.specs.FirstFault.{front_at, machine_at}
 use Rattle.plat_grammar.specs.Grammar.{IsMachine, has_words}
@@ -22,20 +21,17 @@ use Rattle.plat_base.specs.declared.policies.PolicyKind.TheVariants as policy
 use Rattle.plat_base.specs.declared.configs.Distance.{Distance}
 use Rattle.plat_base.specs.declared.configs.Entry.{Entry}
 use Rattle.plat_base.specs.declared.configs.Init.{Init}
-use Rattle.plat_base.specs.declared.guests.Instr.{Instr}
-use Rattle.plat_base.specs.declared.guests.Label.{Label}
-use Rattle.plat_text.proofs.Results.{taking, then_ok, ok_is, ok_first, ok_second}
+use Rattle.plat_text.proofs.Results.{taking, then_ok, ok_first, ok_second}
 use Rattle.plat_text.proofs.WordLaws.{exactly-law, is_within-true, is_within-from}
 use Rattle.plat_text.proofs.FormLemmas.{word_taken, row_taken}
 use Rattle.plat_text.proofs.FormLaws.{row_texts, nothing-law, word_there, texts_taken, read_as-ok}
-use Rattle.plat_text.proofs.SectionLaws.{row_lists, rest_lists, list_size, lists_size, lists_size-append, Took, took_then, row_there}
+use Rattle.plat_text.proofs.SectionLaws.{row_lists, rest_lists, Took, took_then, row_there}
 use Rattle.plat_text.proofs.SectionLaws.{again_exactly}
 use Rattle.plat_text.proofs.RepeatedLaws.{Stops}
-use Rattle.plat_text.proofs.CanonLaws.{AreLines, text_bytes-size}
-use Rattle.plat_machine.proofs.HeaderLaws.{header_lines, HeaderFits, header-law, policy_kind_words, turns_words, page_size-small}
+use Rattle.plat_machine.proofs.HeaderLaws.{header_lines, header-law, policy_kind_words, turns_words, page_size-small}
 use Rattle.plat_machine.proofs.ListLaws.{distances-law, entries-law, inits-law}
-use Rattle.plat_machine.proofs.BodyLaws.{EndsGuest, instr-key}
 use Rattle.plat_machine.proofs.GuestLaws.{GuestFits, all-bools, guests-law}
+use Rattle.plat_base.proofs.LimitLemmas.{limits_of}
 use Rattle.plat_base.proofs.ListLemmas.{all-from}
 
 -- ---- the lines before `end`
@@ -320,103 +316,12 @@ end-again rest more e =
       r.4,
     )
 
--- ---- sizes
-
-end_size : (lines : List Words) → lists_size (lines ++ last_line) ≡ lists_size lines + 4
-end_size lines = lists_size-append lines last_line
+-- ---- lines have words
 
 pub some_words : (w : List ℕ) (ws : Words) → has_words (w ∷ ws) ≡ true
 some_words w ws = not_from_false _ (no_zero (length ws)) where
   no_zero : (n : ℕ) → eqb (suc n) 0 ≡ false
   no_zero n = grind (arith, nat_tests)
-
-are_lines-append : (ls ms : List Words) → AreLines ls → AreLines ms → AreLines (ls ++ ms)
-are_lines-append [] ms h g = g
-are_lines-append (l ∷ ls) ms h g = (h.0, are_lines-append ls ms h.1 g)
-
-code_lines : (names : ℕ → List ℕ) (code : List Instr) → AreLines (map (λ i. instr_words names i) code)
-code_lines names [] = tt
-code_lines names (i ∷ is) = (
-  rw (instr-key names i).parts (some_words (instr-key names i).key (instr-key names i).others),
-  code_lines names is,
-)
-
-lines-take : (n : ℕ) (ls : List Words) → AreLines ls → AreLines (take n ls)
-lines-take zero ls h = tt
-lines-take (suc n) [] h = tt
-lines-take (suc n) (l ∷ ls) h = (h.0, lines-take n ls h.1)
-
-lines-drop : (n : ℕ) (ls : List Words) → AreLines ls → AreLines (drop n ls)
-lines-drop zero ls h = h
-lines-drop (suc n) [] h = tt
-lines-drop (suc n) (l ∷ ls) h = lines-drop n ls h.1
-
-label_lines : (i : ℕ) (code : List Words) (labels : List Label) → AreLines code → AreLines (with_labels i code labels)
-label_lines i code [] h = h
-label_lines i code (l ∷ ls) h =
-    are_lines-append (take (l.at - i) code) _ (lines-take (l.at - i) code h)
-    (refl, label_lines l.at (drop (l.at - i) code) ls (lines-drop (l.at - i) code h))
-
-guest_lines : (gs : List Program) → AreLines (flat_map program_lines gs)
-guest_lines [] = tt
-guest_lines (g ∷ gs) = are_lines-append (program_lines g) _ (refl, label_lines 0 _ g.labels (code_lines (label_name g.labels) g.code))
-    (guest_lines gs)
-
-distance_lines : (ds : List Distance) → AreLines (map distance_words ds)
-distance_lines [] = tt
-distance_lines (d ∷ ds) = (refl, distance_lines ds)
-
-entry_lines : (es : List Entry) → AreLines (map entry_words es)
-entry_lines [] = tt
-entry_lines (e ∷ es) = (refl, entry_lines es)
-
-init_lines : (is : List Init) → AreLines (map init_words is)
-init_lines [] = tt
-init_lines (i ∷ is) = (refl, init_lines is)
-
-front-are_lines : (h : Header) (ds : List Distance) (es : List Entry) (is : List Init) (gs : List Program) →
-    AreLines (front_lines h ds es is gs)
-front-are_lines h ds es is gs =
-    are_lines-append (header_lines h) _ (
-      refl,
-      (
-        refl,
-        (
-          refl,
-          (
-            refl,
-            (
-              refl,
-              (
-                some_words (codes "policy") (policy_kind_words h.policy),
-                (refl, (some_words (codes "schedule") (turns_words h.schedule), tt)),
-              ),
-            ),
-          ),
-        ),
-      ),
-    )
-    (are_lines-append (map distance_words ds) _ (distance_lines ds) (are_lines-append (map entry_words es) _ (entry_lines es)
-    (are_lines-append (map init_words is) _ (init_lines is) (guest_lines gs))))
-
-pub front-size : (h : Header) (ds : List Distance) (es : List Entry) (is : List Init) (gs : List Program)
-    → length (canon_text (machine_with h ds es is gs)) ≡ lists_size (front_lines h ds es is gs) + 4
-unfolding canon_text
-front-size h ds es is gs =
-    ap (λ k. length (text_bytes k)) (sym (canon-front h ds es is gs))
-    ∙ text_bytes-size (front_lines h ds es is gs ++ last_line)
-    (are_lines-append (front_lines h ds es is gs) last_line (front-are_lines h ds es is gs) (refl, tt))
-    ∙ end_size (front_lines h ds es is gs)
-
--- what the rows up to `end` have given says whether the canonical text is short
-pub front-short : (rest : Rest) (m : Machine) (after : Rest) → front_at rest ≡ Ok (m, after) → (rest.given ≤ after.given)
-    × (leb (after.given - rest.given + 4) 1048576 ≡ is_short m)
-unfolding is_short
-front-short rest m after e =
-    let t = (front-takes rest m after e).0 in
-    let size = front-size (header_of m) m.distances m.entries m.inits m.guests in
-    let same : after.given - rest.given + 4 ≡ length (canon_text m) = omega (arith, t.given, size) in
-    (omega (arith, t.given), ap (λ k. leb k 1048576) same)
 
 -- ---- the whole machine text
 
@@ -503,25 +408,22 @@ machine-again rest m more fits short e =
 
 -- ---- the parts of a machine text, as code reads them
 
-module _ (rest after : Rest) (m : Machine) (start given : ℕ) (started : start ≡ rest.given) (gave : given ≡ after.given)
-    (read : front_at rest ≡ Ok (m, after)) where
-  pub gave_more : start ≤ given
-  gave_more = omega (arith, started, gave, (front-short rest m after read).0)
-
-  short_is : leb (given - start + 4) 1048576 ≡ is_short m
-  short_is = rw (started, gave) (front-short rest m after read).1
-
-  pub machine-wrong : (fault : Refused) → end_line (leb (given - start + 4) 1048576) after ≡ Err fault → machine_at rest ≡ Err fault
+module _ (rest after : Rest) (m : Machine) (read : front_at rest ≡ Ok (m, after)) where
+  pub machine-wrong : (short : Bool) (fault : Refused) → short ≡ is_short m → end_line short after ≡ Err fault → machine_at rest ≡ Err fault
   unfolding machine_at
-  machine-wrong fault e = then_ok (front_at rest) _ (m, after) _ read (rw (← short_is, e) refl)
+  machine-wrong short fault same e = then_ok (front_at rest) _ (m, after) _ read (rw (← same, e) refl)
 
-  pub machine-right : (next : ℕ) (left : Rest) → end_line (leb (given - start + 4) 1048576) after ≡ Ok (next, left) →
+  pub machine-right : (short : Bool) (next : ℕ) (left : Rest) → short ≡ is_short m → end_line short after ≡ Ok (next, left) →
       machine_at rest ≡ Ok ((m, next), left)
   unfolding machine_at
-  machine-right next left e = then_ok (front_at rest) _ (m, after) _ read (rw (← short_is, e) refl)
+  machine-right short next left same e = then_ok (front_at rest) _ (m, after) _ read (rw (← same, e) refl)
 
   pub read-limits : IsTrue (is_machine m)
   read-limits = (front-takes rest m after read).1
 
-  pub read-short : (next : ℕ) (left : Rest) → end_line (leb (given - start + 4) 1048576) after ≡ Ok (next, left) → IsTrue (is_short m)
-  read-short next left e = sym short_is ∙ (end-takes (leb (given - start + 4) 1048576) after next left e).is_short
+  pub read-guests : IsTrue (list_all is_program m.guests)
+  read-guests = (limits_of m read-limits).guests
+
+  pub read-short : (short : Bool) (next : ℕ) (left : Rest) → short ≡ is_short m → end_line short after ≡ Ok (next, left) →
+      IsTrue (is_short m)
+  read-short short next left same e = sym same ∙ (end-takes short after next left e).is_short

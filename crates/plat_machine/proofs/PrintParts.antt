@@ -10,6 +10,9 @@ use Rattle.plat_base.specs.declared.configs.Config.{Config}
 use Rattle.plat_base.specs.declared.guests.GuestText.{GuestText}
 use Rattle.plat_io.specs.Lines.{text}
 use Rattle.plat_machine.specs.Printed.{policy_line, schedule_line, size_lines, setting_lines, guest_lines, machine_lines}
+use Rattle.plat_machine.specs.Printed.{front_lines}
+use Rattle.plat_machine.specs.Shown.{front}
+use Rattle.plat_machine.specs.declared.whole.Front.{Front}
 
 guest_lines-programs : (guests : List GuestText) → flat_map guest_lines guests ≡ flat_map program_lines (programs_seen guests)
 unfolding guest_lines
@@ -19,6 +22,10 @@ guest_lines-programs (g ∷ gs) = ap (λ (ls : List Words). guest_lines g ++ ls)
 pub machine_lines-canon : (cfg : Config) → text (machine_lines cfg) ≡ canon_text (machine cfg)
 unfolding text canon_text size_lines setting_lines policy_line schedule_line
 machine_lines-canon cfg = rw guest_lines-programs refl
+
+pub front_lines-canon : (f : Front) → text (front_lines f) ≡ canon_text (front f)
+unfolding text canon_text size_lines setting_lines policy_line schedule_line
+front_lines-canon f = rw guest_lines-programs refl
 
 -- the lines of one guest more
 pub guest_lines-next : (guests : List GuestText) (i : ℕ) (g : GuestText) → i < length guests → g ≡ get_or guests i g →

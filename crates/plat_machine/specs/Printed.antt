@@ -10,6 +10,7 @@ use Rattle.plat_base.specs.declared.configs.Init.{Init}
 use Rattle.plat_base.specs.declared.configs.Plan.{Plan}
 use Rattle.plat_base.specs.declared.guests.GuestText.{GuestText}
 use Rattle.plat_base.specs.declared.policies.PolicyKind.{PolicyKind}
+use Rattle.plat_machine.specs.declared.whole.Front.{Front}
 
 unfoldable pub policy_line : PolicyKind → Words
 policy_line policy = policy_words policy
@@ -44,3 +45,10 @@ body_lines distances entries inits guests =
 
 abbrev pub machine_lines : Config → List Words
 machine_lines cfg = head_lines cfg ++ body_lines cfg.distances.items cfg.entries.items cfg.inits.items cfg.guests.items
+
+-- the lines of what was read before the line `end`, and that line
+abbrev pub front_lines : Front → List Words
+front_lines f =
+    size_lines f.header.nodes f.header.frames f.header.words f.header.pages
+    ++ (setting_lines f.header.policy f.header.budget f.header.schedule
+    ++ body_lines f.distances.items f.entries.items f.inits.items f.guests.items)

@@ -6,10 +6,6 @@ mod guests;
 mod headers;
 mod instructions;
 mod lists;
-#[cfg(test)]
-mod parse_tests;
-#[cfg(test)]
-mod print_tests;
 mod printing;
 mod printing_guests;
 mod whole;

@@ -9,9 +9,10 @@ ghost use Rattle.plat_base.specs.Seen.{machine};
 ghost use Rattle.plat_io.specs.Adds.{Adds};
 ghost use Rattle.plat_io.specs.Lines.{AddsLines};
 ghost use Rattle.plat_machine.specs.Printed.{policy_line, schedule_line, size_lines, setting_lines, head_lines, guest_lines, body_lines};
-ghost use Rattle.plat_machine.specs.Printed.{machine_lines};
+ghost use Rattle.plat_machine.specs.Printed.{machine_lines, front_lines};
 
 use crate::printing_guests::write_guest;
+use crate::whole::Front;
 use plat_base::{Config, Distance, Entry, GuestText, Init, Plan, PolicyKind};
 use plat_io::Word::{Number, Text};
 use plat_io::{Sink, WriteFault, write_line, write_list_line};
@@ -38,6 +39,30 @@ fn write_machine<K: Sink>(sink: &mut K, cfg: &Config) -> Result<(), WriteFault>
         cfg.entries.as_slice(),
         cfg.inits.as_slice(),
         cfg.guests.as_slice(),
+    )
+}
+
+/// Writes the canonical text of what was read, with the line `end`.
+#[tactic(auto, using(plat_io::proofs::LineLemmas::lines))]
+pub(crate) fn write_front<K: Sink>(sink: &mut K, front: &Front) -> Result<(), WriteFault>
+    requires { IsTrue (list_all is_program (programs_seen front.now.guests.items)) }
+    ensures { AddsLines K.Sink sink.old sink.new result (front_lines front.now) }
+{
+    let header = &front.header;
+    write_sizes(
+        sink,
+        header.nodes,
+        header.frames,
+        header.words,
+        header.pages,
+    )?;
+    write_settings(sink, header.policy, header.budget, &header.schedule)?;
+    write_body(
+        sink,
+        front.distances.as_slice(),
+        front.entries.as_slice(),
+        front.inits.as_slice(),
+        front.guests.as_slice(),
     )
 }
 

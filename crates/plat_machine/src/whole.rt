@@ -1,6 +1,7 @@
 //! Whole machine texts.
 ghost use Rattle.std.specs.Prelude.{◌≡◌, ◌+◌, ◌<◌, length, IfOk, IsTrue, ℕ, Ok};
-ghost use Rattle.plat_base.specs.Machine.{Machine};
+ghost use Rattle.std.specs.List.{list_all};
+ghost use Rattle.plat_base.specs.Machine.{Machine, is_program, programs_seen};
 ghost use Rattle.plat_base.specs.Seen.{machine};
 ghost use Rattle.plat_base.specs.Canon.{is_short};
 ghost use Rattle.plat_grammar.specs.Forms.{Reads, Gives};
@@ -11,7 +12,11 @@ ghost use Rattle.plat_machine.specs.Shown.{front};
 use crate::guests::guests;
 use crate::headers::{Header, read_header};
 use crate::lists::{distances, entries, inits};
-use plat_base::{Config, Distance, Entries, GuestText, Init, List, Refused, TextFault, Why};
+use crate::printing::write_front;
+use plat_base::{
+    Config, Distance, Entries, GuestText, Init, List, OutOfMemory, Refused, TextFault, Why,
+};
+use plat_io::QuietSink;
 use plat_text::{Rows, refusal};
 use std::alloc::Global;
 
@@ -63,14 +68,25 @@ fn end(rows: &mut Rows<'_>, short: bool) -> Result<u32, Refused>
     Ok(line + 1)
 }
 
+/// Whether the canonical text of what was read is short enough. It is written to memory, up to one byte more than that.
+fn has_short_text(alloc: Global, read: &Front) -> Result<bool, OutOfMemory>
+    requires { IsTrue (list_all is_program (programs_seen read.now.guests.items)) }
+    ensures { IfOk result (λ short. short ≡ is_short (front read.now)) }
+{
+    let mut text = QuietSink::new(alloc, MOST_BYTES + 1)?;
+    match write_front(&mut text, read) {
+        Ok(()) => Ok(text.bytes().len() <= MOST_BYTES),
+        Err(_) => Ok(false),
+    }
+}
+
 /// Reads a machine text from here on, and gives the number of the line after its line `end`.
 #[tactic(auto, unfolding(plat_grammar::specs::FirstFault::machine_at))]
 pub fn read_machine(alloc: Global, rows: &mut Rows<'_>) -> Result<(Config, u32), TextFault>
     ensures { Gives (λ r. ((machine r.0, r.1), rows.new)) result (machine_at rows.old) }
 {
-    let start = rows.given();
     let front = read_front(alloc, rows)?;
-    let short = rows.given() - start + 4 <= 1_048_576;
+    let short = has_short_text(alloc, &front)?;
     let next = end(rows, short)?;
     let Front {
         header,

@@ -3,8 +3,8 @@ use Rattle.std.specs.Prelude.{◌≡◌, ◌≢◌, ◌⊎◌, ℕ, ◌+◌, ◌
 use Rattle.std.specs.Prelude.{◌++◌, count_by, length, None, slice_set}
 use Rattle.std.proofs.Common.{refl, ap, sym, ◌∙◌, inl, inr, arith, subst, get_or-set_same, get_or-set_other, length-set}
 use Rattle.std.proofs.lemmas.Bool.{cases_Bool, and_parts, eqb-true, eq-eqb, true≢false, ltb-true, and_right}
-use Rattle.std.proofs.lemmas.Bool.Decides.{nat_tests}
 use Rattle.std.proofs.lemmas.Nat.{mul-add-lt, same_from_place}
+use Rattle.plat_base.specs.Items.{is_access_that}
 use Rattle.plat_base.specs.Verdicts.{Answer}
 use Rattle.plat_base.specs.Machine.{Machine}
 use Rattle.plat_base.specs.Flat.{is_write, writes_word, flat_writes}
@@ -19,7 +19,7 @@ use Rattle.plat_merge_laws.proofs.MergeLaws.{AllKept}
 use Rattle.plat_merge.specs.declared.counts.WordCount.{WordCount}
 use Rattle.plat_merge.specs.declared.counts.PageCount.{PageCount}
 use Rattle.plat_merge.specs.declared.totals.Totals.{Totals}
-use Rattle.plat_merge.specs.Standing.{access_passes, is_load_of, is_load_at, is_use_at, is_write_at, changes_page, loads_waiting}
+use Rattle.plat_merge.specs.Standing.{is_load_of, is_load_at, is_use_at, is_write_at, changes_page, loads_waiting}
 use Rattle.plat_merge.specs.Standing.{uses_waiting, writes_waiting, may_access, may_change, may_stand}
 use Rattle.plat_merge.specs.Counts.{cell_of, no_word, no_page, word_at, page_at, is_within, stands_by, word_after, page_after, page_changed}
 use Rattle.plat_merge.specs.Counts.{ShowsCounts}
@@ -226,7 +226,7 @@ module _
           let there = word-set_other words cell (cell_of m.words page word) (word_after a (loads_found m.words t a) (word_at words cell))
           apart in
           let none : writes_word page word i ≡ false = other-cell (is_write a.kind) (a.page == page) (a.word == word) other in
-          let none_load : access_passes (is_load_of page word) i ≡ false =
+          let none_load : is_access_that (is_load_of page word) i ≡ false =
           and_right (not (is_write a.kind)) (a.page == page && a.word == word) other in
           let more = flat_writes-more placed i page word ∙ ap (λ b. flat_writes placed page word + one_if b) none in
           let loads =
@@ -347,7 +347,7 @@ module _
     -- words are not concerned
     same-word :
         (i : Item) → bad_rule m answer placed i ≡ None → Shown i
-        → ((page word : ℕ) → writes_word page word i ≡ false) → ((page word : ℕ) → access_passes (is_load_of page word) i ≡ false)
+        → ((page word : ℕ) → writes_word page word i ≡ false) → ((page word : ℕ) → is_access_that (is_load_of page word) i ≡ false)
         → (page word : ℕ) → page < m.pages → word < m.words
         → ((word_at words (cell_of m.words page word)).writes ≡ flat_writes (placed ++ i ∷ []) page word)
         × ((word_at words (cell_of m.words page word)).loads ≡ loads_waiting (placed ++ i ∷ []) (front ++ back) page word)
@@ -367,7 +367,7 @@ module _
     -- nor is a page that is not changed
     same-page :
         (i : Item) → bad_rule m answer placed i ≡ None → Shown i → (page : ℕ) → page < m.pages → changes_page page i ≡ false
-        → ((f : Access → Bool) → access_passes f i ≡ false) → (v : PageCount) → v ≡ page_at pages page
+        → ((f : Access → Bool) → is_access_that f i ≡ false) → (v : PageCount) → v ≡ page_at pages page
         → (v.changes ≡ seq_of (placed ++ i ∷ []) page)
         × (v.uses ≡ uses_waiting (placed ++ i ∷ []) (front ++ back) page)
         × (v.writes ≡ writes_waiting (placed ++ i ∷ []) (front ++ back) page)
@@ -475,7 +475,7 @@ module _
 
     other-shown :
         (i : Item) → bad_rule m answer placed i ≡ None → Shown i → ((page word : ℕ) → writes_word page word i ≡ false)
-        → ((page : ℕ) → changes_page page i ≡ false) → ((f : Access → Bool) → access_passes f i ≡ false)
+        → ((page : ℕ) → changes_page page i ≡ false) → ((f : Access → Bool) → is_access_that f i ≡ false)
         → ShowsCounts m (placed ++ i ∷ []) (front ++ back) m.words words pages
     other-shown i kept shown none same no_access = record {
       same_words = refl;

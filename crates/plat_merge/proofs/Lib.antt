@@ -8,4 +8,3 @@ pub mod UnderWay
 pub mod TotalLemmas
 pub mod StartLemmas
 pub mod RoomLemmas
-pub mod TriedLemmas

@@ -4,12 +4,11 @@ use Rattle.std.specs.Prelude.{count_by, Some, None}
 use Rattle.std.proofs.Common.{ap, sym, ◌∙◌, inl, inr, arith, subst}
 use Rattle.std.specs.List.{fold}
 use Rattle.std.proofs.lemmas.Bool.{cases_Bool, and_parts, ltb-true}
-use Rattle.std.proofs.lemmas.Bool.Decides.{nat_tests}
 use Rattle.std.proofs.lemmas.List.Sums.{count_by-le-length}
 use Rattle.std.proofs.lemmas.Nat.{mul-add-lt}
 use Rattle.plat_base.specs.Machine.{Machine}
 use Rattle.plat_base.specs.Flat.{is_write, writes_word, flat_writes}
-use Rattle.plat_base.specs.Directories.{change_of, seq_after, seq_of}
+use Rattle.plat_base.specs.Directories.{change_on, seq_after, seq_of}
 use Rattle.plat_base.specs.declared.limits.TheConstants.{MOST_ITEMS}
 use Rattle.plat_base.specs.declared.items.Access.{Access}
 use Rattle.plat_base.specs.declared.items.Change.{Change}
@@ -45,24 +44,24 @@ writes-counted page word n (x ∷ xs) =
     by true h k = omega (arith, h)
     by false h k = omega (arith, k)
 
-pub seq-counted : (page n : ℕ) (xs : List Item) → fold (λ k i. seq_after k (change_of page i)) n xs ≡ n + count_by (changes_page page) xs
+pub seq-counted : (page n : ℕ) (xs : List Item) → fold (λ k i. seq_after k (change_on page i)) n xs ≡ n + count_by (changes_page page) xs
 seq-counted page n [] = omega arith
 seq-counted page n (x ∷ xs) =
     by x (seq-counted page (n + 1) xs) (seq-counted page n xs)
     ∙ ap (λ k. n + k) (sym (count-cons (changes_page page) x xs))
   where
     by_page :
-        (b : Bool) (c : Change) → fold (λ k i. seq_after k (change_of page i)) (n + 1) xs ≡ n + 1 + count_by (changes_page page) xs
-        → fold (λ k i. seq_after k (change_of page i)) n xs ≡ n + count_by (changes_page page) xs
-        → fold (λ k i. seq_after k (change_of page i)) (seq_after n (if b then Some c else None)) xs
+        (b : Bool) (c : Change) → fold (λ k i. seq_after k (change_on page i)) (n + 1) xs ≡ n + 1 + count_by (changes_page page) xs
+        → fold (λ k i. seq_after k (change_on page i)) n xs ≡ n + count_by (changes_page page) xs
+        → fold (λ k i. seq_after k (change_on page i)) (seq_after n (if b then Some c else None)) xs
         ≡ n + (one_if b + count_by (changes_page page) xs)
     by_page true c h k = omega (arith, h)
     by_page false c h k = omega (arith, k)
 
     by :
-        (x : Item) → fold (λ k i. seq_after k (change_of page i)) (n + 1) xs ≡ n + 1 + count_by (changes_page page) xs
-        → fold (λ k i. seq_after k (change_of page i)) n xs ≡ n + count_by (changes_page page) xs
-        → fold (λ k i. seq_after k (change_of page i)) (seq_after n (change_of page x)) xs
+        (x : Item) → fold (λ k i. seq_after k (change_on page i)) (n + 1) xs ≡ n + 1 + count_by (changes_page page) xs
+        → fold (λ k i. seq_after k (change_on page i)) n xs ≡ n + count_by (changes_page page) xs
+        → fold (λ k i. seq_after k (change_on page i)) (seq_after n (change_on page x)) xs
         ≡ n + (one_if (changes_page page x) + count_by (changes_page page) xs)
     by (item.Access a) h k = omega (arith, k)
     by (item.Change c) h k = by_page (c.page == page) c h k

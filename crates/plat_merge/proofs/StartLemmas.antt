@@ -8,6 +8,7 @@ use Rattle.std.proofs.lemmas.Bool.{and_parts, or_parts, not-false}
 use Rattle.std.proofs.lemmas.Bool.Decides.{nat_tests}
 use Rattle.std.proofs.lemmas.List.{append_assoc, append-nil, length-append, length-replicate, get_or-replicate}
 use Rattle.std.proofs.lemmas.Nat.{mul-add-lt}
+use Rattle.plat_base.specs.Items.{is_access_that}
 use Rattle.plat_base.specs.Verdicts.{Answer}
 use Rattle.plat_base.specs.Machine.{Machine, is_machine}
 use Rattle.plat_base.specs.Rooms.{journal_rooms, fit_rooms}
@@ -25,7 +26,7 @@ use Rattle.plat_merge.specs.declared.counts.WordCount.{WordCount}
 use Rattle.plat_merge.specs.declared.counts.PageCount.{PageCount}
 use Rattle.plat_merge.specs.declared.counts.Counts.{Counts}
 use Rattle.plat_merge.specs.declared.totals.Totals.{Totals}
-use Rattle.plat_merge.specs.Standing.{access_passes, is_load_of, is_load_up_to, is_load_at, is_use_below, is_write_below}
+use Rattle.plat_merge.specs.Standing.{is_load_of, is_load_up_to, is_load_at, is_use_below, is_write_below}
 use Rattle.plat_base.specs.Flat.{is_write}
 use Rattle.plat_merge.specs.Counts.{cell_of, no_page, word_at, page_at, is_within, stands_by, ShowsCounts}
 use Rattle.plat_merge.specs.Keys.{first_count}
@@ -43,7 +44,7 @@ use Rattle.plat_laws.proofs.HistoryLaws.{good-items}
 -- ---- the start
 
 -- no test of a number below none passes
-none-below : (pass : Access → Bool) (items : List Item) → list_any (access_passes (λ a. pass a && nat_lt a.grant 0)) items ≡ false
+none-below : (pass : Access → Bool) (items : List Item) → list_any (is_access_that (λ a. pass a && nat_lt a.grant 0)) items ≡ false
 none-below pass [] = refl
 none-below pass (i ∷ items) = rw (one i) (none-below pass items)
   where
@@ -51,7 +52,7 @@ none-below pass (i ∷ items) = rw (one i) (none-below pass items)
     last_false true n = grind (arith, nat_tests)
     last_false false n = refl
 
-    one : (i : Item) → access_passes (λ a. pass a && nat_lt a.grant 0) i ≡ false
+    one : (i : Item) → is_access_that (λ a. pass a && nat_lt a.grant 0) i ≡ false
     one (item.Access a) = last_false (pass a) a.grant
     one (item.Change c) = refl
     one (item.Applied x) = refl

@@ -7,10 +7,11 @@ use Rattle.std.proofs.lemmas.Bool.{cases_Bool, and_parts, not-true, eqb-true}
 use Rattle.std.proofs.lemmas.Bool.Decides.{nat_tests}
 use Rattle.std.proofs.lemmas.List.{append_assoc}
 use Rattle.std.proofs.lemmas.List.Sums.{sum_by-cons, sum_by-append}
+use Rattle.plat_base.specs.Items.{is_access_that}
 use Rattle.plat_base.specs.Verdicts.{Answer}
 use Rattle.plat_base.specs.Machine.{Machine}
 use Rattle.plat_base.specs.Flat.{is_write, writes_word, flat_writes}
-use Rattle.plat_base.specs.Directories.{change_of, seq_after, seq_of}
+use Rattle.plat_base.specs.Directories.{change_on, seq_after, seq_of}
 use Rattle.plat_base.specs.Rules.{bad_rule}
 use Rattle.plat_base.specs.declared.items.Access.{Access}
 use Rattle.plat_base.specs.declared.items.Change.{Change}
@@ -19,7 +20,7 @@ use Rattle.plat_base.specs.declared.items.Item.TheVariants as item
 use Rattle.plat_laws.proofs.ItemLaws.{flat_writes-append, seq_of-append}
 use Rattle.plat_merge_laws.proofs.OrderLemmas.{writes-rise, seq-rises, not-both}
 use Rattle.plat_merge_laws.proofs.MergeLaws.{AllKept, kept-append, current-after}
-use Rattle.plat_merge.specs.Standing.{access_passes, changes_page, is_load_of, is_load_up_to, is_load_at, is_use_at, is_write_at}
+use Rattle.plat_merge.specs.Standing.{changes_page, is_load_of, is_load_up_to, is_load_at, is_use_at, is_write_at}
 use Rattle.plat_merge.specs.Standing.{loads_waiting, uses_waiting, writes_waiting}
 use Rattle.plat_merge.proofs.StandLemmas.{one_if, none-count, FitsVersion, HasNumbers, kept-numbers}
 
@@ -57,7 +58,7 @@ below-split true n v = grind (arith, nat_tests)
 
 passes-split :
     (f g h : Access → Bool) → ((a : Access) → one_if (f a) ≡ one_if (g a) + one_if (h a)) → (i : Item)
-    → one_if (access_passes f i) ≡ one_if (access_passes g i) + one_if (access_passes h i)
+    → one_if (is_access_that f i) ≡ one_if (is_access_that g i) + one_if (is_access_that h i)
 passes-split f g h each (item.Access a) = each a
 passes-split f g h each (item.Change c) = refl
 passes-split f g h each (item.Applied x) = refl
@@ -101,14 +102,14 @@ module _ (m : Machine) (answer : Answer) where
   pub grant-past :
       (pass : Access → Bool) (page n : ℕ) → ((a : Access) → pass a ≡ true → a.page ≡ page) → (before xs : List Item)
       → AllKept m answer [] before → AllKept m answer before xs → seq_of (before ++ xs) page ≤ n
-      → list_any (access_passes (λ a. pass a && a.grant == n)) xs ≡ false
+      → list_any (is_access_that (λ a. pass a && a.grant == n)) xs ≡ false
   grant-past pass page n of_page before [] start kept low = refl
   grant-past pass page n of_page before (x ∷ xs) start kept low =
       rw (one x kept.0 (omega (arith, low, seq_of-append before (x ∷ xs) page, seq-rises page (seq_of before page) (x ∷ xs))))
       (grant-past pass page n of_page (before ++ x ∷ []) xs (kept-append m answer [] before (x ∷ []) start (kept.0, tt)) kept.1
       (subst (λ zs. seq_of zs page ≤ n) (sym (append_assoc before (x ∷ []) xs)) low))
     where
-      one : (x : Item) → bad_rule m answer before x ≡ None → seq_of before page ≤ n → access_passes (λ a. pass a && a.grant == n) x ≡ false
+      one : (x : Item) → bad_rule m answer before x ≡ None → seq_of before page ≤ n → is_access_that (λ a. pass a && a.grant == n) x ≡ false
       one (item.Access b) here below =
           not-both (pass b) (b.grant == n) (λ passes at.
           let count : seq_of before b.page ≡ seq_of before page = ap (seq_of before) (of_page b passes) in
@@ -140,7 +141,7 @@ seq_of-more placed i page = seq_of-append placed (i ∷ []) page ∙ by i (seq_o
     by_page true c n = refl
     by_page false c n = omega arith
 
-    by : (i : Item) (n : ℕ) → seq_after n (change_of page i) ≡ n + one_if (changes_page page i)
+    by : (i : Item) (n : ℕ) → seq_after n (change_on page i) ≡ n + one_if (changes_page page i)
     by (item.Access a) n = none n
     by (item.Change c) n = by_page (c.page == page) c n
     by (item.Applied x) n = none n
@@ -152,7 +153,7 @@ pass-if false q h = refl
 
 -- an item that writes a word loads nothing
 write-loads : (page word : ℕ) (g : Access → Bool) (i : Item) → writes_word page word i ≡ true →
-    access_passes (λ a. is_load_of page word a && g a) i ≡ false
+    is_access_that (λ a. is_load_of page word a && g a) i ≡ false
 write-loads page word g (item.Access a) h =
     let writes = (and_parts (is_write a.kind) (a.page == page) (and_parts (is_write a.kind && a.page == page) (a.word == word) h).0).0 in
     rw writes refl
@@ -160,7 +161,7 @@ write-loads page word g (item.Change c) h = absurd cc
 write-loads page word g (item.Applied x) h = absurd cc
 write-loads page word g (item.Switch s) h = absurd cc
 
-write-loads_none : (page word : ℕ) (i : Item) → writes_word page word i ≡ true → access_passes (is_load_of page word) i ≡ false
+write-loads_none : (page word : ℕ) (i : Item) → writes_word page word i ≡ true → is_access_that (is_load_of page word) i ≡ false
 write-loads_none page word (item.Access a) h =
     let writes = (and_parts (is_write a.kind) (a.page == page) (and_parts (is_write a.kind && a.page == page) (a.word == word) h).0).0 in
     rw writes refl
@@ -168,7 +169,7 @@ write-loads_none page word (item.Change c) h = absurd cc
 write-loads_none page word (item.Applied x) h = absurd cc
 write-loads_none page word (item.Switch s) h = absurd cc
 
-change-passes : (page : ℕ) (f : Access → Bool) (i : Item) → changes_page page i ≡ true → access_passes f i ≡ false
+change-passes : (page : ℕ) (f : Access → Bool) (i : Item) → changes_page page i ≡ true → is_access_that f i ≡ false
 change-passes page f (item.Access a) h = absurd cc
 change-passes page f (item.Change c) h = refl
 change-passes page f (item.Applied x) h = refl
@@ -189,7 +190,7 @@ module _
 
     -- a load has a version that is placed
     load-counted : (page word : ℕ) (i : Item) → HasNumbers placed i → is_load_up_to page word (flat_writes placed page word) i
-        ≡ access_passes (is_load_of page word) i
+        ≡ is_access_that (is_load_of page word) i
     unfolding FitsVersion
     load-counted page word (item.Access a) numbers =
         pass-if (is_load_of page word a) (nat_le a.version (flat_writes placed page word)) (λ of.
@@ -210,7 +211,7 @@ module _
     -- an access has a grant that is placed
     grant-counted :
         (pass : Access → Bool) (page : ℕ) → ((a : Access) → pass a ≡ true → a.page ≡ page) → (i : Item) → HasNumbers placed i
-        → access_passes (λ a. pass a && nat_lt a.grant (seq_of placed page)) i ≡ access_passes pass i
+        → is_access_that (λ a. pass a && nat_lt a.grant (seq_of placed page)) i ≡ is_access_that pass i
     grant-counted pass page of_page (item.Access a) numbers =
         pass-if (pass a) (nat_lt a.grant (seq_of placed page)) (λ passes.
         let count : seq_of placed a.page ≡ seq_of placed page = ap (seq_of placed) (of_page a passes) in
@@ -223,7 +224,7 @@ module _
     -- the loads of a word that wait
     pub loads-step :
         (page word : ℕ)
-        → loads_waiting next (front ++ back) page word + one_if (access_passes (is_load_of page word) i)
+        → loads_waiting next (front ++ back) page word + one_if (is_access_that (is_load_of page word) i)
         ≡ loads_waiting placed whole page word
         + (if writes_word page word i then count_by (is_load_at page word (flat_writes placed page word + 1)) (placed ++ whole) else 0)
     loads-step page word = by (cases_Bool (writes_word page word i))
@@ -237,7 +238,7 @@ module _
 
         by :
             (writes_word page word i ≡ true) ⊎ (writes_word page word i ≡ false)
-            → loads_waiting next (front ++ back) page word + one_if (access_passes (is_load_of page word) i)
+            → loads_waiting next (front ++ back) page word + one_if (is_access_that (is_load_of page word) i)
             ≡ loads_waiting placed whole page word
             + (if writes_word page word i then count_by (is_load_at page word (flat_writes placed page word + 1)) (placed ++ whole) else 0)
         by (inl writes) =
@@ -265,26 +266,26 @@ module _
     -- the accesses of a page that wait, of those that pass a test
     grants-step :
         (pass : Access → Bool) (page : ℕ) → ((a : Access) → pass a ≡ true → a.page ≡ page)
-        → count_by (access_passes (λ a. pass a && nat_lt a.grant (seq_of next page))) (front ++ back) + one_if (access_passes pass i)
-        ≡ count_by (access_passes (λ a. pass a && nat_lt a.grant (seq_of placed page))) whole
-        + (if changes_page page i then count_by (access_passes (λ a. pass a && a.grant == seq_of placed page)) (placed ++ whole) else 0)
+        → count_by (is_access_that (λ a. pass a && nat_lt a.grant (seq_of next page))) (front ++ back) + one_if (is_access_that pass i)
+        ≡ count_by (is_access_that (λ a. pass a && nat_lt a.grant (seq_of placed page))) whole
+        + (if changes_page page i then count_by (is_access_that (λ a. pass a && a.grant == seq_of placed page)) (placed ++ whole) else 0)
     grants-step pass page of_page = by (cases_Bool (changes_page page i))
       where
         n : ℕ
         n = seq_of placed page
 
         below : ℕ → Item → Bool
-        below k = access_passes (λ a. pass a && nat_lt a.grant k)
+        below k = is_access_that (λ a. pass a && nat_lt a.grant k)
 
         exactly : Item → Bool
-        exactly = access_passes (λ a. pass a && a.grant == n)
+        exactly = is_access_that (λ a. pass a && a.grant == n)
 
         taken : count_by (below n) whole ≡ one_if (below n i) + count_by (below n) (front ++ back)
         taken = count-taken (below n) front back i
 
         by :
             (changes_page page i ≡ true) ⊎ (changes_page page i ≡ false)
-            → count_by (below (seq_of next page)) (front ++ back) + one_if (access_passes pass i)
+            → count_by (below (seq_of next page)) (front ++ back) + one_if (is_access_that pass i)
             ≡ count_by (below n) whole + (if changes_page page i then count_by exactly (placed ++ whole) else 0)
         by (inl changes) =
             let more : seq_of next page ≡ n + 1 = seq_of-more placed i page ∙ ap (λ b. n + one_if b) changes in
@@ -309,14 +310,14 @@ module _
 
     pub uses-step :
         (page : ℕ)
-        → uses_waiting next (front ++ back) page + one_if (access_passes (λ a. a.page == page) i)
+        → uses_waiting next (front ++ back) page + one_if (is_access_that (λ a. a.page == page) i)
         ≡ uses_waiting placed whole page + (if changes_page page i then count_by (is_use_at page (seq_of placed page)) (placed ++ whole)
         else 0)
     uses-step page = grants-step (λ a. a.page == page) page (λ a h. eqb-true a.page page h)
 
     pub writes-step :
         (page : ℕ)
-        → writes_waiting next (front ++ back) page + one_if (access_passes (λ a. is_write a.kind && a.page == page) i)
+        → writes_waiting next (front ++ back) page + one_if (is_access_that (λ a. is_write a.kind && a.page == page) i)
         ≡ writes_waiting placed whole page + (if changes_page page i then count_by (is_write_at page (seq_of placed page)) (placed ++ whole)
         else 0)
     writes-step page =

@@ -1,5 +1,5 @@
 -- the tables of the journals of a good history say how many items wait for one
-use Rattle.std.specs.Prelude.{◌≡◌, ◌⊎◌, ℕ, zero, suc, ◌+◌, ◌-◌, ◌*◌, ◌<◌, ◌≤◌, ◌==◌, nat_lt, ◌&&◌, not, if◌then◌else◌, Bool, true, false}
+use Rattle.std.specs.Prelude.{◌≡◌, ◌⊎◌, ℕ, suc, ◌+◌, ◌-◌, ◌*◌, ◌<◌, ◌≤◌, ◌==◌, nat_lt, ◌&&◌, not, if◌then◌else◌, Bool, true, false}
 use Rattle.std.specs.Prelude.{List, [], ◌∷◌, ◌++◌, length, drop, count_by, sum_by, Some, None, slice_index, slice_index_or}
 use Rattle.std.proofs.Common.{refl, ap, sym, ◌∙◌, inl, inr, arith, subst}
 use Rattle.std.specs.List.{list_all, list_any}
@@ -22,7 +22,7 @@ use Rattle.plat_events.specs.Merges.{Journals, without_next}
 use Rattle.plat_laws.proofs.AccessLaws.{access_parts}
 use Rattle.plat_laws.proofs.ChangeLaws.{good_change}
 use Rattle.plat_merge_laws.specs.Merging.{HasJournals}
-use Rattle.plat_merge_laws.proofs.JournalLemmas.{journals-without}
+use Rattle.plat_merge_laws.proofs.JournalLemmas.{journals-without, journal-within}
 use Rattle.plat_merge_laws.proofs.MergeLaws.{AllKept}
 use Rattle.plat_merge.specs.declared.keys.Counted.{Counted}
 use Rattle.plat_merge.specs.declared.keys.Counted.TheVariants as counted
@@ -59,12 +59,6 @@ within-all m answer before (x ∷ xs) kept = rw (within-one m answer before x ke
 
 -- ---- a count over all journals is one over the items
 
-inside-journals : (journals : Journals) (a : ℕ) (i : Item) (rest : List Item) → slice_index_or journals a [] ≡ i ∷ rest →
-    a < length journals
-inside-journals [] a i rest h = absurd cc
-inside-journals (x ∷ xs) zero i rest h = omega arith
-inside-journals (x ∷ xs) (suc a) i rest h = let l = inside-journals xs a i rest h in omega arith
-
 none-left : (f : Item → Bool) (journals : Journals) → ((a : ℕ) → slice_index_or journals a [] ≡ []) →
     sum_by (λ (j : List Item). count_by f j) journals ≡ 0
 none-left f [] h = refl
@@ -81,7 +75,7 @@ journals-counted f (i ∷ items) journals has =
     let front : slice_index_or journals (actor_of i) [] ≡ i ∷ items_by (actor_of i) items =
     has (actor_of i) ∙ ap (λ (b : Bool). if b then i ∷ items_by (actor_of i) items else items_by (actor_of i) items)
     (eq-eqb (actor_of i) (actor_of i) refl) in
-    let inside = inside-journals journals (actor_of i) i (items_by (actor_of i) items) front in
+    let inside = journal-within journals (actor_of i) i (items_by (actor_of i) items) front in
     let j : List Item = slice_index_or journals (actor_of i) [] in
     let taken = sum_by-set (λ (j : List Item). count_by f j) journals (actor_of i) (drop 1 j) [] inside in
     let whole : count_by f j ≡ one_if (f i) + count_by f (items_by (actor_of i) items) = ap (count_by f) front

@@ -1,6 +1,7 @@
 -- whether an item may stand next, by counts of what is placed and of what is still to come
-use Rattle.std.specs.Prelude.{ℕ, ◌+◌, ◌==◌, nat_lt, nat_le, ◌&&◌, not, if◌then◌else◌, Bool, true, false, List, count_by}
+use Rattle.std.specs.Prelude.{ℕ, ◌+◌, ◌==◌, nat_lt, nat_le, ◌&&◌, not, if◌then◌else◌, Bool, true, List, count_by}
 use Rattle.plat_base.specs.Flat.{is_write, flat_writes}
+use Rattle.plat_base.specs.Items.{is_access_that, is_change_that}
 use Rattle.plat_base.specs.Directories.{seq_of}
 use Rattle.plat_base.specs.declared.items.Removed.{Removed}
 use Rattle.plat_base.specs.declared.items.Removed.TheVariants as removed
@@ -11,42 +12,33 @@ use Rattle.plat_base.specs.declared.items.Item.TheVariants as item
 
 -- ---- which accesses are counted
 
-abbrev pub access_passes : (Access → Bool) → Item → Bool
-access_passes test (item.Access a) = test a
-access_passes test (item.Change c) = false
-access_passes test (item.Applied x) = false
-access_passes test (item.Switch s) = false
-
 abbrev pub is_load_of : (page word : ℕ) → Access → Bool
 is_load_of page word a = not (is_write a.kind) && (a.page == page && a.word == word)
 
 -- loads of a word: of a version up to this one, and of this version
 abbrev pub is_load_up_to : (page word version : ℕ) → Item → Bool
-is_load_up_to page word version i = access_passes (λ a. is_load_of page word a && nat_le a.version version) i
+is_load_up_to page word version i = is_access_that (λ a. is_load_of page word a && nat_le a.version version) i
 
 abbrev pub is_load_at : (page word version : ℕ) → Item → Bool
-is_load_at page word version i = access_passes (λ a. is_load_of page word a && a.version == version) i
+is_load_at page word version i = is_access_that (λ a. is_load_of page word a && a.version == version) i
 
 -- accesses of a page: by a grant below this number, and by the grant of this number
 abbrev pub is_use_below : (page seq : ℕ) → Item → Bool
-is_use_below page seq i = access_passes (λ a. a.page == page && nat_lt a.grant seq) i
+is_use_below page seq i = is_access_that (λ a. a.page == page && nat_lt a.grant seq) i
 
 abbrev pub is_use_at : (page seq : ℕ) → Item → Bool
-is_use_at page seq i = access_passes (λ a. a.page == page && a.grant == seq) i
+is_use_at page seq i = is_access_that (λ a. a.page == page && a.grant == seq) i
 
 -- of those, the writes
 abbrev pub is_write_below : (page seq : ℕ) → Item → Bool
-is_write_below page seq i = access_passes (λ a. is_write a.kind && a.page == page && nat_lt a.grant seq) i
+is_write_below page seq i = is_access_that (λ a. is_write a.kind && a.page == page && nat_lt a.grant seq) i
 
 abbrev pub is_write_at : (page seq : ℕ) → Item → Bool
-is_write_at page seq i = access_passes (λ a. is_write a.kind && a.page == page && a.grant == seq) i
+is_write_at page seq i = is_access_that (λ a. is_write a.kind && a.page == page && a.grant == seq) i
 
 -- a change of the page
 abbrev pub changes_page : ℕ → Item → Bool
-changes_page page (item.Access a) = false
-changes_page page (item.Change c) = c.page == page
-changes_page page (item.Applied x) = false
-changes_page page (item.Switch s) = false
+changes_page page = is_change_that (λ c. c.page == page)
 
 -- ---- the counts
 

@@ -12,6 +12,3 @@ mod totals;
 
 pub use merging::merge;
 pub use rooms::Room;
-
-#[cfg(test)]
-mod tests;

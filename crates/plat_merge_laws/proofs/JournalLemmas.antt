@@ -139,10 +139,10 @@ pub journals-moved :
 journals-moved front back i journals alone has b = has b ∙ by-moved (actor_of i) b front back i refl alone
 
 -- a journal that has an item is one of the journals
-within : (journals : Journals) (a : ℕ) (i : Item) (rest : List Item) → slice_index_or journals a [] ≡ i ∷ rest → a < length journals
-within [] a i rest h = absurd cc
-within (x ∷ xs) zero i rest h = omega arith
-within (x ∷ xs) (suc a) i rest h = let l = within xs a i rest h in omega arith
+pub journal-within : (journals : Journals) (a : ℕ) (i : Item) (rest : List Item) → slice_index_or journals a [] ≡ i ∷ rest → a < length journals
+journal-within [] a i rest h = absurd cc
+journal-within (x ∷ xs) zero i rest h = omega arith
+journal-within (x ∷ xs) (suc a) i rest h = let l = journal-within xs a i rest h in omega arith
 
 module _ (i : Item) (items : List Item) (journals : Journals) where
   front-of : HasJournals (i ∷ items) journals → slice_index_or journals (actor_of i) [] ≡ i ∷ items_by (actor_of i) items
@@ -155,7 +155,7 @@ module _ (i : Item) (items : List Item) (journals : Journals) where
           ≡ items_by b items
       by (inl own) =
           let e : actor_of i ≡ b = eqb-true (actor_of i) b own in
-          let l = within journals (actor_of i) i (items_by (actor_of i) items) (front-of has) in
+          let l = journal-within journals (actor_of i) i (items_by (actor_of i) items) (front-of has) in
           ap (λ k. slice_index_or (without_next journals (actor_of i)) k []) (sym e)
           ∙ (get_or-set_same journals (actor_of i) (drop 1 (slice_index_or journals (actor_of i) [])) [] l
           ∙ (ap (drop 1) (front-of has) ∙ ap (λ k. items_by k items) e))
@@ -173,7 +173,7 @@ module _ (i : Item) (items : List Item) (journals : Journals) where
       by : ((actor_of i == b) ≡ true) ⊎ ((actor_of i == b) ≡ false) → slice_index_or journals b [] ≡ items_by b (i ∷ items)
       by (inl own) =
           let e : actor_of i ≡ b = eqb-true (actor_of i) b own in
-          let l = within journals (actor_of i) i rest here in
+          let l = journal-within journals (actor_of i) i rest here in
           let taken : rest ≡ items_by (actor_of i) items =
           sym (ap (drop 1) here) ∙ (sym (get_or-set_same journals (actor_of i) (drop 1 (slice_index_or journals (actor_of i) [])) [] l)
           ∙ has (actor_of i)) in
@@ -187,7 +187,7 @@ module _ (i : Item) (items : List Item) (journals : Journals) where
   -- one item fewer is left
   items_left-without : HasJournals (i ∷ items) journals → items_left journals ≡ suc (items_left (without_next journals (actor_of i)))
   items_left-without has =
-      let l = within journals (actor_of i) i (items_by (actor_of i) items) (front-of has) in
+      let l = journal-within journals (actor_of i) i (items_by (actor_of i) items) (front-of has) in
       let j : List Item = slice_index_or journals (actor_of i) [] in
       let size = sum_by-set (λ (journal : List Item). length journal) journals (actor_of i) (drop 1 j) [] l in
       let whole : length j ≡ suc (length (items_by (actor_of i) items)) = ap length (front-of has) in

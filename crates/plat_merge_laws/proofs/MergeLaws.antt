@@ -11,13 +11,10 @@ use Rattle.plat_base.specs.Machine.{Machine}
 use Rattle.plat_base.specs.Pages.{program_of}
 use Rattle.plat_base.specs.Done.{value_of, done_of}
 use Rattle.plat_base.specs.Held.{held_after, active_after}
-use Rattle.plat_base.specs.Rules.{is_in_order, bad_rule, bad_or, bad_after, bad_ends, first_bad, Good}
+use Rattle.plat_base.specs.Rules.{is_in_order, bad_rule, bad_after}
 use Rattle.plat_base.specs.Histories.{IsOneHistory}
-use Rattle.plat_base.specs.declared.endings.Ended.{Ended}
-use Rattle.plat_base.specs.declared.items.Translation.{Translation}
 use Rattle.plat_base.specs.declared.items.Item.{Item}
 use Rattle.plat_base.specs.declared.items.Item.TheVariants as item
-use Rattle.plat_base.specs.declared.statuses.Bad.{Bad}
 use Rattle.plat_events.specs.Shown.{actor_of, items_by}
 use Rattle.plat_events.specs.Merges.{Journals, comes_before, ready_actor, without_next, placed_first, merge_step, merge_from, merged}
 use Rattle.plat_laws.proofs.ItemLaws.{fold-filter}
@@ -27,13 +24,14 @@ use Rattle.plat_laws.proofs.EndLaws.{first_bad-none}
 use Rattle.plat_laws.proofs.HistoryLaws.{one_history, good-items}
 use Rattle.plat_merge_laws.specs.Merging.{HasJournals, MergesAreGood}
 use Rattle.plat_merge_laws.proofs.ReadLemmas.{SameOwn, is_in_order-same}
-use Rattle.plat_merge_laws.proofs.SwapLemmas.{Same, same-more, bad_rule-same, active_after-idle}
+use Rattle.plat_merge_laws.proofs.SwapLemmas.{Same, same-more, bad_rule-same}
 use Rattle.plat_merge_laws.proofs.NeighbourLemmas.{may_swap}
 use Rattle.plat_merge_laws.proofs.OrderLemmas.{behind-not_before, itself-not_before}
 use Rattle.plat_merge_laws.proofs.JournalLemmas.{none-journals, journals-none, IsFirst, first_of, journals-moved, journals-without}
 use Rattle.plat_merge_laws.proofs.JournalLemmas.{journals-with, items_left-length, IsReadyNext, ready_actor-some, ready_actor-there}
 use Rattle.plat_base.proofs.RuleLemmas.{bad_at-none}
 use Rattle.plat_base.proofs.ListLemmas.{filter_map-filter}
+use Rattle.plat_events.proofs.ActorLemmas.{value_of-other, done_of-other, held_after-other, active_after-other}
 
 -- ---- items that break no rule behind others
 
@@ -198,40 +196,22 @@ module _ (m : Machine) (answer : Answer) where
 
 -- ---- ends
 
-value_of-idle : (q : ℕ) (x : Item) → (actor_of x == q) ≡ false → value_of q x ≡ None
-value_of-idle q (item.Access a) h = rw h refl
-value_of-idle q (item.Change c) h = refl
-value_of-idle q (item.Applied x) h = refl
-value_of-idle q (item.Switch s) h = refl
-
-done_of-idle : (q : ℕ) (x : Item) → (actor_of x == q) ≡ false → done_of q x ≡ None
-done_of-idle q (item.Access a) h = rw h refl
-done_of-idle q (item.Change c) h = refl
-done_of-idle q (item.Applied x) h = refl
-done_of-idle q (item.Switch s) h = rw h refl
-
-held_after-idle : (m : Machine) (q e : ℕ) (t : Option Translation) (x : Item) → (actor_of x == q) ≡ false → held_after m q e t x ≡ t
-held_after-idle m q e t (item.Access a) h = refl
-held_after-idle m q e t (item.Change c) h = rw h refl
-held_after-idle m q e t (item.Applied x) h = rw h refl
-held_after-idle m q e t (item.Switch s) h = refl
-
 -- what an actor's own items say is the same where they are the same
 own-items : (m : Machine) (xs ys : List Item) (q : ℕ) → items_by q xs ≡ items_by q ys → SameOwn m xs ys q
 own-items m xs ys q h = record {
   values =
-      sym (filter_map-filter (value_of q) (λ i. actor_of i == q) (value_of-idle q) xs)
-      ∙ (ap (filter_map (value_of q)) h ∙ filter_map-filter (value_of q) (λ i. actor_of i == q) (value_of-idle q) ys);
+      sym (filter_map-filter (value_of q) (λ i. actor_of i == q) (value_of-other q) xs)
+      ∙ (ap (filter_map (value_of q)) h ∙ filter_map-filter (value_of q) (λ i. actor_of i == q) (value_of-other q) ys);
   operations =
-      sym (filter_map-filter (done_of q) (λ i. actor_of i == q) (done_of-idle q) xs)
-      ∙ (ap (filter_map (done_of q)) h ∙ filter_map-filter (done_of q) (λ i. actor_of i == q) (done_of-idle q) ys);
+      sym (filter_map-filter (done_of q) (λ i. actor_of i == q) (done_of-other q) xs)
+      ∙ (ap (filter_map (done_of q)) h ∙ filter_map-filter (done_of q) (λ i. actor_of i == q) (done_of-other q) ys);
   holds = λ e.
-      sym (fold-filter (held_after m q e) (λ i. actor_of i == q) (held_after-idle m q e) None xs)
-      ∙ (ap (fold (held_after m q e) None) h ∙ fold-filter (held_after m q e) (λ i. actor_of i == q) (held_after-idle m q e) None ys);
+      sym (fold-filter (held_after m q e) (λ i. actor_of i == q) (held_after-other m q e) None xs)
+      ∙ (ap (fold (held_after m q e) None) h ∙ fold-filter (held_after m q e) (λ i. actor_of i == q) (held_after-other m q e) None ys);
   is_in =
-      sym (fold-filter (active_after q) (λ i. actor_of i == q) (active_after-idle q) (program_of m q).space xs)
+      sym (fold-filter (active_after q) (λ i. actor_of i == q) (active_after-other q) (program_of m q).space xs)
       ∙ (ap (fold (active_after q) (program_of m q).space) h
-      ∙ fold-filter (active_after q) (λ i. actor_of i == q) (active_after-idle q) (program_of m q).space ys);
+      ∙ fold-filter (active_after q) (λ i. actor_of i == q) (active_after-other q) (program_of m q).space ys);
 }
 
 -- ---- the whole

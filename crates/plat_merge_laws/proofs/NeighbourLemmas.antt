@@ -3,13 +3,13 @@
 use Rattle.std.specs.Prelude.{◌≡◌, ◌≢◌, ◌⊎◌, ℕ, ◌+◌, ◌==◌, nat_lt, nat_le, ◌&&◌, ◌||◌, if◌then◌else◌, Bool, true, false, List, [], ◌∷◌}
 use Rattle.std.specs.Prelude.{◌++◌, None}
 use Rattle.std.proofs.Common.{refl, ap, sym, ◌∙◌, inl, inr, arith}
-use Rattle.std.proofs.lemmas.Bool.{cases_Bool, and_parts, eqb-true, eq-eqb, ne_eqb}
+use Rattle.std.proofs.lemmas.Bool.{cases_Bool, and_parts, eqb-true, eq-eqb, ne_eqb, or_parts}
 use Rattle.std.proofs.lemmas.Bool.Decides.{nat_tests}
 use Rattle.plat_base.specs.Verdicts.{Answer}
 use Rattle.plat_base.specs.Machine.{Machine}
 use Rattle.plat_base.specs.Accesses.{writes_made}
 use Rattle.plat_base.specs.Flat.{is_write, writes_word, flat_value, flat_writes}
-use Rattle.plat_base.specs.Directories.{change_of, seq_of}
+use Rattle.plat_base.specs.Directories.{change_on, seq_of}
 use Rattle.plat_base.specs.Held.{is_later_change, later, removes_all, removes_writes}
 use Rattle.plat_base.specs.Rules.{is_chained, bad_rule}
 use Rattle.plat_base.specs.declared.items.Removed.{Removed}
@@ -151,12 +151,12 @@ module _ (m : Machine) (answer : Answer) (before : List Item) where
   written_back-none b (item.Applied x) kept_b kept_i free = refl
   written_back-none b (item.Switch s) kept_b kept_i free = refl
 
-  other_page : (c : Change) (page : ℕ) → (c.page == page) ≡ false → change_of page (item.Change c) ≡ None
+  other_page : (c : Change) (page : ℕ) → (c.page == page) ≡ false → change_on page (item.Change c) ≡ None
   other_page c page h = rw h refl
 
   changed-none :
       (j : Item) (d : Change) → bad_rule m answer before j ≡ None → bad_rule m answer (before ++ j ∷ []) (item.Change d) ≡ None
-      → comes_before j (item.Change d) ≡ false → change_of d.page j ≡ None
+      → comes_before j (item.Change d) ≡ false → change_on d.page j ≡ None
   changed-none (item.Access b) d kept_j kept_d free = refl
   changed-none (item.Change c) d kept_j kept_d free = other_page c d.page (changes-apart c d kept_j kept_d free)
   changed-none (item.Applied x) d kept_j kept_d free = refl
@@ -165,7 +165,7 @@ module _ (m : Machine) (answer : Answer) (before : List Item) where
   changed_back-none :
       (c : Change) (i : Item) → bad_rule m answer before (item.Change c) ≡ None
       → bad_rule m answer (before ++ item.Change c ∷ []) i ≡ None → comes_before (item.Change c) i ≡ false
-      → change_of c.page i ≡ None
+      → change_on c.page i ≡ None
   changed_back-none c (item.Access a) kept_c kept_i free = refl
   changed_back-none c (item.Change d) kept_c kept_i free =
       other_page d c.page (let apart = changes-apart c d kept_c kept_i free in grind (arith, nat_tests))
@@ -174,16 +174,12 @@ module _ (m : Machine) (answer : Answer) (before : List Item) where
 
 -- ---- they may change places
 
-false-left : (b c : Bool) → (b || c) ≡ false → b ≡ false
-false-left false c h = refl
-false-left true c h = absurd cc
-
 -- what was not removed by the end was not removed before
 later-before : (test : Removed → Bool) (before : List Item) (x : Item) (page seq : ℕ) → later test (before ++ x ∷ []) page seq ≡ false →
     later test before page seq ≡ false
 later-before test before x page seq h =
-    false-left (later test before page seq) (is_later_change test page seq x) (sym (list_any-push (is_later_change test page seq) before x)
-    ∙ h)
+    (or_parts (later test before page seq) (is_later_change test page seq x) (sym (list_any-push (is_later_change test page seq) before x)
+    ∙ h)).0
 
 -- an item that removes nothing leaves what was not removed
 later-after :
@@ -327,10 +323,10 @@ module _ (m : Machine) (answer : Answer) (before : List Item) where
   -- no page is changed by both
   one-changes :
       (j i : Item) → comes_before j i ≡ false → bad_rule m answer before j ≡ None → bad_rule m answer (before ++ j ∷ []) i ≡ None
-      → (page : ℕ) → (change_of page j ≡ None) ⊎ (change_of page i ≡ None)
+      → (page : ℕ) → (change_on page j ≡ None) ⊎ (change_on page i ≡ None)
   one-changes (item.Change c) i free kept_j kept_i page = by (cases_Bool (c.page == page))
     where
-      by : ((c.page == page) ≡ true) ⊎ ((c.page == page) ≡ false) → (change_of page (item.Change c) ≡ None) ⊎ (change_of page i ≡ None)
+      by : ((c.page == page) ≡ true) ⊎ ((c.page == page) ≡ false) → (change_on page (item.Change c) ≡ None) ⊎ (change_on page i ≡ None)
       by (inr other) = inl (other_page m answer before c page other)
       by (inl same) =
           let p : c.page ≡ page = eqb-true c.page page same in

@@ -11,7 +11,7 @@ use Rattle.plat_base.specs.Verdicts.{Answer}
 use Rattle.plat_base.specs.Machine.{Machine}
 use Rattle.plat_base.specs.Accesses.{writes_made}
 use Rattle.plat_base.specs.Flat.{is_write, writes_word, flat_writes}
-use Rattle.plat_base.specs.Directories.{change_of, seq_after, seq_of}
+use Rattle.plat_base.specs.Directories.{change_on, seq_after, seq_of}
 use Rattle.plat_base.specs.Held.{is_later_change, later, removes_all, removes_writes}
 use Rattle.plat_base.specs.Rules.{bad_rule}
 use Rattle.plat_base.specs.Histories.{IsByGrant}
@@ -54,14 +54,14 @@ written-counts before between a =
     counted true n = grind (arith, nat_tests)
     counted false n = omega arith
 
-pub seq-rises : (page n : ℕ) (xs : List Item) → n ≤ fold (λ k i. seq_after k (change_of page i)) n xs
+pub seq-rises : (page n : ℕ) (xs : List Item) → n ≤ fold (λ k i. seq_after k (change_on page i)) n xs
 seq-rises page n [] = omega arith
-seq-rises page n (x ∷ xs) = by (change_of page x) (seq-rises page (n + 1) xs) (seq-rises page n xs)
+seq-rises page n (x ∷ xs) = by (change_on page x) (seq-rises page (n + 1) xs) (seq-rises page n xs)
   where
     by :
-        (o : Option Change) → n + 1 ≤ fold (λ k i. seq_after k (change_of page i)) (n + 1) xs
-        → n ≤ fold (λ k i. seq_after k (change_of page i)) n xs
-        → n ≤ fold (λ k i. seq_after k (change_of page i)) (seq_after n o) xs
+        (o : Option Change) → n + 1 ≤ fold (λ k i. seq_after k (change_on page i)) (n + 1) xs
+        → n ≤ fold (λ k i. seq_after k (change_on page i)) n xs
+        → n ≤ fold (λ k i. seq_after k (change_on page i)) (seq_after n o) xs
     by (Some c) h k = omega arith
     by None h k = k
 

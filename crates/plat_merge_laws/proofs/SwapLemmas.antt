@@ -7,7 +7,7 @@ use Rattle.plat_base.specs.Verdicts.{Answer}
 use Rattle.plat_base.specs.Machine.{Machine}
 use Rattle.plat_base.specs.Done.{values_of, operations_of}
 use Rattle.plat_base.specs.Flat.{is_write, writes_word, written, flat_value, flat_writes}
-use Rattle.plat_base.specs.Directories.{change_of, dir_after, dir_of, seq_after, seq_of, last_after, last_of}
+use Rattle.plat_base.specs.Directories.{change_on, dir_after, dir_of, seq_after, seq_of, last_after, last_of}
 use Rattle.plat_base.specs.Held.{held_after, active_after, active, is_later_change, later, removes_all, removes_writes}
 use Rattle.plat_base.specs.Rules.{bad_rule, bad_at, bad_after}
 use Rattle.plat_base.specs.declared.items.Removed.{Removed}
@@ -20,6 +20,7 @@ use Rattle.plat_laws.proofs.ItemLaws.{flat_writes-append, dir_of-append, seq_of-
 use Rattle.plat_merge_laws.proofs.ReadLemmas.{SameOwn, SameWord, SamePage, bad_rule-access, bad_rule-change, bad_rule-applied}
 use Rattle.plat_merge_laws.proofs.ReadLemmas.{bad_rule-switch}
 use Rattle.plat_base.proofs.ListLemmas.{list_any-push}
+use Rattle.plat_events.proofs.ActorLemmas.{active_after-other}
 
 -- ---- the same in all that a rule may read
 
@@ -54,9 +55,9 @@ module _ (m : Machine) (xs ys : List Item) (x : Item) where
 
   page-more : (page : ℕ) → SamePage xs ys page → SamePage (xs ++ x ∷ []) (ys ++ x ∷ []) page
   page-more page h = record {
-    dir = dir_of-append xs (x ∷ []) page ∙ (ap (λ d. dir_after d (change_of page x)) h.dir ∙ sym (dir_of-append ys (x ∷ []) page));
-    seq = seq_of-append xs (x ∷ []) page ∙ (ap (λ n. seq_after n (change_of page x)) h.seq ∙ sym (seq_of-append ys (x ∷ []) page));
-    last = last_of-append xs (x ∷ []) page ∙ (ap (λ t. last_after t (change_of page x)) h.last ∙ sym (last_of-append ys (x ∷ []) page));
+    dir = dir_of-append xs (x ∷ []) page ∙ (ap (λ d. dir_after d (change_on page x)) h.dir ∙ sym (dir_of-append ys (x ∷ []) page));
+    seq = seq_of-append xs (x ∷ []) page ∙ (ap (λ n. seq_after n (change_on page x)) h.seq ∙ sym (seq_of-append ys (x ∷ []) page));
+    last = last_of-append xs (x ∷ []) page ∙ (ap (λ t. last_after t (change_on page x)) h.last ∙ sym (last_of-append ys (x ∷ []) page));
   }
 
   removals-more :
@@ -82,19 +83,13 @@ is_by-actor q (item.Change c) = refl
 is_by-actor q (item.Applied x) = refl
 is_by-actor q (item.Switch s) = refl
 
-pub active_after-idle : (q space : ℕ) (x : Item) → (actor_of x == q) ≡ false → active_after q space x ≡ space
-active_after-idle q space (item.Access a) h = refl
-active_after-idle q space (item.Change c) h = refl
-active_after-idle q space (item.Applied x) h = refl
-active_after-idle q space (item.Switch s) h = rw h refl
-
 module _ (m : Machine) (xs : List Item) (x : Item) where
   pub own-idle : (q : ℕ) → (actor_of x == q) ≡ false → SameOwn m (xs ++ x ∷ []) xs q
   own-idle q h = record {
     values = values_of-not_mine q xs (x ∷ []) none;
     operations = operations_of-not_mine q xs (x ∷ []) none;
     holds = λ e. held-not_mine m xs (x ∷ []) q e none;
-    is_in = active-append m xs (x ∷ []) q ∙ active_after-idle q (active m xs q) x h;
+    is_in = active-append m xs (x ∷ []) q ∙ active_after-other q (active m xs q) x h;
   }
     where
       none : list_any (is_by q) (x ∷ []) ≡ false
@@ -107,7 +102,7 @@ module _ (m : Machine) (xs : List Item) (x : Item) where
         ∙ ap (λ (b : Bool). if b then flat_writes xs page word + 1 else flat_writes xs page word) h;
   }
 
-  pub page-idle : (page : ℕ) → change_of page x ≡ None → SamePage (xs ++ x ∷ []) xs page
+  pub page-idle : (page : ℕ) → change_on page x ≡ None → SamePage (xs ++ x ∷ []) xs page
   page-idle page h = record {
     dir = dir_of-append xs (x ∷ []) page ∙ ap (dir_after (dir_of xs page)) h;
     seq = seq_of-append xs (x ∷ []) page ∙ ap (seq_after (seq_of xs page)) h;
@@ -169,7 +164,7 @@ module _ (m : Machine) (xs : List Item) (j i : Item) where
       (word-back (word-more m (xs ++ i ∷ []) xs j page word (word-idle m xs i page word h)))
 
   pub page-swapped :
-      (page : ℕ) → (change_of page j ≡ None) ⊎ (change_of page i ≡ None)
+      (page : ℕ) → (change_on page j ≡ None) ⊎ (change_on page i ≡ None)
       → SamePage ((xs ++ j ∷ []) ++ i ∷ []) ((xs ++ i ∷ []) ++ j ∷ []) page
   page-swapped page (inl h) =
       page-then (page-more m (xs ++ j ∷ []) xs i page (page-idle m xs j page h)) (page-back (page-idle m (xs ++ i ∷ []) j page h))

@@ -7,7 +7,6 @@ use Rattle.std.specs.Option.{option_map, option_map_or}
 use Rattle.std.proofs.lemmas.Bool.{cases_eq, eq-eqb, ne_eqb, true≢false}
 use Rattle.std.proofs.lemmas.Bool.Decides.{nat_tests}
 use Rattle.std.proofs.lemmas.List.{get_or-set_same, get_or-set_other}
-use Rattle.std.proofs.lemmas.Nat.Bits.{bit_at-zero}
 use Rattle.plat_base.specs.Verdicts.{Answer}
 use Rattle.plat_base.specs.Machine.{Machine}
 use Rattle.plat_base.specs.Pages.{page_of, space_of, entries_of_space}
@@ -25,7 +24,7 @@ use Rattle.plat_base.specs.declared.words.WordName.{WordName}
 use Rattle.plat_base.specs.declared.words.WordName.TheVariants as word
 use Rattle.plat_laws.specs.Guests.{IsWithinLimits}
 use Rattle.plat_laws.proofs.Limits.{nodes-most}
-use Rattle.plat_events.specs.Words.{has_reference, has_invalidate, has_restrict, has_bit, bits_applied, all_but}
+use Rattle.plat_events.specs.Words.{has_reference, has_invalidate, has_restrict, bits_applied, all_but}
 use Rattle.plat_events.specs.Places.{entry_count, is_name, is_word}
 use Rattle.plat_events.specs.Sessions.{Session}
 use Rattle.plat_events.specs.Privates.{Onward, Place, Looking, Applying, Private, actor_count, translation_at}
@@ -45,10 +44,10 @@ use Rattle.plat_fine_laws.proofs.WordLaws.{word_at-new, word_at-other}
 use Rattle.plat_fine_laws.proofs.PrivateLaws.{private_of-other}
 use Rattle.plat_fine_laws.proofs.PlaceLaws.{scan_from-goes, place_view-same, go_on-plain}
 use Rattle.plat_fine_laws.proofs.ScanLaws.{look-scans}
-use Rattle.plat_fine_laws.proofs.ViewFieldLaws.{page_view-same}
+use Rattle.plat_fine_laws.proofs.ViewFieldLaws.{page_view-same, view_of-bits}
 use Rattle.plat_fine_laws.proofs.Footprints.{apply-changes}
 use Rattle.plat_fine_laws.proofs.KeepLaws
-use Rattle.plat_message_laws.proofs.ToldLaws.{view_of-bits, leaves-applied, held-applied, KeepsBits, others-bits}
+use Rattle.plat_message_laws.proofs.ToldLaws.{leaves-applied, held-applied, KeepsBits, others-bits}
 use Rattle.plat_message_laws.proofs.FoundLaws.{Finds, finds}
 use Rattle.plat_message_laws.proofs.FoundLaws
 use Rattle.plat_local_laws.proofs.PmapLaws.{told-lacks}

@@ -20,7 +20,7 @@ use Rattle.plat_base.specs.declared.items.Translation.{Translation}
 use Rattle.plat_laws.proofs.ItemLaws.{dir_of-applied, seq_of-applied, last_of-applied, later-applied, held-append}
 use Rattle.plat_events.specs.Words.{has_reference, has_invalidate, has_restrict, bits_applied, all_but}
 use Rattle.plat_events.specs.Kept.{Running}
-use Rattle.plat_events.specs.Views.{View, SessionView, PlaceView, PageView, EntryOk, InvalidateStays, HeldView, HeldOk, is_marked, agrees}
+use Rattle.plat_events.specs.Views.{View, PlaceView, EntryOk, InvalidateStays, HeldView, HeldOk, is_marked, agrees}
 use Rattle.plat_events.specs.Views.{view_of, session_view, page_view}
 use Rattle.plat_events.specs.Runs.{Fine}
 use Rattle.plat_words.proofs.Masks.{has_reference-invalidated, has_invalidate-invalidated, has_restrict-invalidated}
@@ -49,11 +49,6 @@ pub lowered_held :
 lowered_held v u b h after ok h0 h1 h2 h3 = search arith
 
 -- a view reads only the bits of its own processor
-pub view_of-bits :
-    (q : ℕ) (t : Option Translation) (n k : ℕ) (x : SessionView) (y : PlaceView) (z : PageView) →
-    has_invalidate n q ≡ has_invalidate k q → has_restrict n q ≡ has_restrict k q → view_of q t n x y z ≡ view_of q t k x y z
-view_of-bits q t n k x y z invalidate restrict = λ i. record (view_of q t k x y z) { invalidate = invalidate i; restrict = restrict i }
-
 -- ---- translations
 
 pub told-some : (t : Option Translation) → is_some (told message.Restrict t) ≡ is_some t

@@ -6,6 +6,3 @@ mod pmaps;
 
 pub use atcs::{Atc, Look, Slot};
 pub use pmaps::Pmap;
-
-#[cfg(test)]
-mod tests;

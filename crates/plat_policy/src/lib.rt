@@ -11,6 +11,3 @@ pub use conditions::{is_dir, may_decide};
 pub use decisions::decide;
 pub use distances::{distance, nearest};
 pub use placements::{Place, Platinum, Replicate};
-
-#[cfg(test)]
-mod tests;

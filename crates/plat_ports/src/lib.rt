@@ -9,6 +9,3 @@ mod vec_ports;
 pub use ports::WordPort;
 pub use record_ports::{Made, RecordPort};
 pub use vec_ports::VecPort;
-
-#[cfg(test)]
-mod tests;

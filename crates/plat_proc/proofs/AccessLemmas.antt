@@ -14,10 +14,13 @@ use Rattle.plat_base.specs.declared.items.Kind.{Kind}
 use Rattle.plat_base.specs.declared.items.Kind.TheVariants as kind
 use Rattle.plat_base.specs.declared.items.Cause.{Cause}
 use Rattle.plat_base.specs.declared.items.Translation.{Translation}
+use Rattle.plat_base.specs.declared.words.Op.{Op}
+use Rattle.plat_base.specs.declared.words.WordName.{WordName}
 use Rattle.plat_base.proofs.LimitLemmas.{limits_of, holds_at, page_below}
 use Rattle.plat_laws.proofs.GuestLaws.{entry_at-found}
-use Rattle.plat_events.specs.Privates.{Expecting, Loading, Ticking, Private}
-use Rattle.plat_events.specs.Events.{entry_of, reach_now, vpage_of, look_up, places_filled}
+use Rattle.plat_events.specs.Privates.{Expecting, Loading, Ticking, Private, translation_at}
+use Rattle.plat_events.specs.Events.{entry_of, frame_by, reach_now, vpage_of, look_up, memory_now, places_filled, translation_now}
+use Rattle.plat_events.specs.Sessions.{memory_at}
 use Rattle.plat_handler.specs.Fits.{is_fault}
 use Rattle.plat_local_laws.specs.Faults.{WantsAccess}
 use Rattle.plat_pmap.specs.Slots.{Agrees, counted, places}
@@ -25,8 +28,9 @@ use Rattle.plat_pmap.specs.Translations.{translation_of, usable}
 use Rattle.plat_pmap.specs.declared.atcs.Slot.{Slot}
 use Rattle.plat_proc.specs.declared.accesses.Reached.{Reached}
 use Rattle.plat_proc.specs.Fits.{Fits}
+use Rattle.plat_proc.specs.Followed.{next_named}
 use Rattle.plat_proc.specs.ProcSeen.{ProcSeen}
-use Rattle.plat_proc.specs.Reached.{IsReach, reach_seen}
+use Rattle.plat_proc.specs.Reached.{GoesBy, IsReach, reach_seen}
 use Rattle.plat_proc.proofs.CacheLemmas.{agrees-ticked}
 
 -- ---- where an address leads
@@ -57,6 +61,23 @@ pub IsReach-reached :
     → reach_seen r ≡ reach_of m k space addr operand → r.entry ≡ e → r.vpage ≡ addr / m.words → IsReach m r
 IsReach-reached m r k space addr operand e h found is ee ev =
     leads-to m r space addr e h found (ap (λ (x : Reach). x.space) is) (ap (λ (x : Reach). x.addr) is) ee ev (ap (λ (x : Reach). x.page) is)
+
+-- ---- the word of the access
+
+memory-reached :
+    (m : Machine) (x : ProcSeen) (r : Reached) (t : Translation) → GoesBy m x r t
+    → memory_at t.grant.frame r.word ≡ memory_now m x.actor x.state
+memory-reached m x r t k =
+    let entry : r.entry ≡ entry_of m (reach_now m x.actor x.state) = k.leads.entry ∙ ap (entry_of m) k.reach in
+    let there : translation_now m x.actor x.state ≡ Some t = ap (translation_at x.state) (sym entry) ∙ k.translation in
+    ap (λ (o : Option Translation). memory_at (frame_by o) r.word) (sym there)
+    ∙ ap (λ (y : Reach). memory_at (frame_by (translation_now m x.actor x.state)) y.word) k.reach
+
+pub next-reached :
+    (m : Machine) (x : ProcSeen) (r : Reached) (t : Translation) (name : WordName) (op : Op) → GoesBy m x r t
+    → name ≡ memory_at t.grant.frame r.word → next_named m x ≡ Some (memory_now m x.actor x.state, op)
+    → next_named m x ≡ Some (name, op)
+next-reached m x r t name op k e n = rw (e ∙ memory-reached m x r t k) n
 
 -- ---- the fault
 

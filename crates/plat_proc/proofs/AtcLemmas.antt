@@ -11,7 +11,6 @@ use Rattle.plat_base.specs.Flat.{is_write}
 use Rattle.plat_base.specs.GuestRun.{Reach, reach_of, want_of}
 use Rattle.plat_base.specs.Held.{has_right, serves}
 use Rattle.plat_base.specs.Messages.{removes_some}
-use Rattle.plat_base.specs.Pages.{page_of}
 use Rattle.plat_base.specs.declared.guests.Want.{Want}
 use Rattle.plat_base.specs.declared.guests.Want.TheVariants as want
 use Rattle.plat_base.specs.declared.endings.End.TheVariants as end

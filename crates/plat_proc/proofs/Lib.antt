@@ -1,4 +1,3 @@
-pub mod SpaceEntries
 pub mod GoesOnLemmas
 pub mod SlotFitsLemmas
 pub mod SessionFitsLemmas

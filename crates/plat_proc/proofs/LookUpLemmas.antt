@@ -6,15 +6,13 @@ use Rattle.std.specs.Option.{option_map_or}
 use Rattle.std.proofs.lemmas.Bool.{cond_both, cond-true, cases_Bool, eqb-true, eq-eqb, true≢false, and_right}
 use Rattle.std.proofs.lemmas.Option.{slice_get-get_or}
 use Rattle.plat_base.specs.Machine.{Machine}
-use Rattle.plat_base.specs.Accesses.{cause_of, right_of}
+use Rattle.plat_base.specs.Accesses.{right_of}
 use Rattle.plat_base.specs.Cache.{serves_access}
 use Rattle.plat_base.specs.Flat.{is_write}
 use Rattle.plat_base.specs.GuestRun.{Reach}
 use Rattle.plat_base.specs.Held.{has_right, serves}
 use Rattle.plat_base.specs.Messages.{removes_some}
 use Rattle.plat_base.specs.Pages.{no_entry, page_of}
-use Rattle.plat_base.specs.declared.items.Kind.{Kind}
-use Rattle.plat_base.specs.declared.items.Kind.TheVariants.{Load, Store, Add}
 use Rattle.plat_base.specs.declared.items.Removed.TheVariants as removed
 use Rattle.plat_base.specs.declared.items.Translation.{Translation}
 use Rattle.plat_laws.proofs.GuestLaws.{entry_at-found, IsReach-wanted}

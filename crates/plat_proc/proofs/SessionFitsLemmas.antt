@@ -15,7 +15,6 @@ use Rattle.plat_base.specs.declared.items.Kind.TheVariants.{Load, Store, Add}
 use Rattle.plat_base.specs.declared.items.Right.{Right}
 use Rattle.plat_base.specs.declared.items.Right.TheVariants.{Read, Write}
 use Rattle.plat_base.specs.declared.items.Translation.{Translation}
-use Rattle.plat_laws.proofs.Limits.{list_all-get_or}
 use Rattle.plat_events.specs.Events.{reach_now}
 use Rattle.plat_events.specs.Privates.{InSession, Place, Private, translation_at}
 use Rattle.plat_events.specs.Sessions.{Fault, Course, Phase, Granting, Unlocking, Session, entry_faulted, with_phase}
@@ -28,6 +27,7 @@ use Rattle.plat_pmap.specs.declared.atcs.Slot.{Slot}
 use Rattle.plat_proc.specs.Fits.{CacheFits, grants_by, grants_in, removes_of}
 use Rattle.plat_proc.proofs.GoesOnLemmas.{IsBefore}
 use Rattle.plat_proc.proofs.SlotFitsLemmas.{and-weaker, ungranted}
+use Rattle.plat_base.proofs.LimitLemmas.{holds_at}
 
 -- the session removes translations
 abbrev pub removes : Machine → (a : ℕ) → Private → Session → Bool
@@ -103,7 +103,7 @@ pub slot-usable :
     (slots : List (Option Slot)) (k : ℕ) (s : Slot) → AreSlots slots → slice_get slots k ≡ Some (Some s) → is_usable (Some s) ≡ true
 slot-usable slots k s h g =
     ap is_usable (sym (get_or_from_slice_get slots k (Some s) None g))
-    ∙ list_all-get_or is_usable slots k None h.usable (slice_get_within slots k (Some s) g)
+    ∙ holds_at is_usable slots k None h.usable (slice_get_within slots k (Some s) g)
 
 -- what serves no access by its right was not filled by a write
 lacks-misses :

@@ -1,9 +1,9 @@
 -- what stands at the place of a processor, and what its operation makes of its private state there
-use Rattle.std.proofs.Common.{◌≡◌, ℕ, ◌*◌, ◌<◌, ◌≤◌, Bool, true, List, [], ◌∷◌, ◌++◌, length, refl, sym, ap, ◌∙◌, subst, inl, arith, rules}
+use Rattle.std.proofs.Common.{◌≡◌, ℕ, ◌*◌, ◌<◌, ◌≤◌, Bool, true, false, List, [], ◌∷◌, ◌++◌, length, refl, sym, ap, ◌∙◌}
+use Rattle.std.proofs.Common.{subst, inl, arith, rules}
 use Rattle.std.specs.Prelude.{IsTrue, Option, Some, None, IfSome, IsSome, if◌then◌else◌}
 use Rattle.std.proofs.lemmas.Bool.{eq-eqb}
 use Rattle.std.proofs.lemmas.Bool.Decides.{nat_tests}
-use Rattle.std.proofs.Math.Nat.{mul-le-mul_left, mul_comm}
 use Rattle.plat_base.specs.Machine.{Machine, is_machine}
 use Rattle.plat_base.specs.Pages.{entries_of_space}
 use Rattle.plat_base.specs.Cache.{no_places}
@@ -14,12 +14,10 @@ use Rattle.plat_base.specs.declared.items.Item.TheVariants as item
 use Rattle.plat_base.specs.declared.items.Message.{Message}
 use Rattle.plat_base.specs.declared.items.Moment.{Moment}
 use Rattle.plat_base.specs.declared.items.Moment.TheVariants as moment
-use Rattle.plat_laws.specs.Guests.{IsWithinLimits}
-use Rattle.plat_laws.proofs.Limits.{nodes-most, budget-most}
 use Rattle.plat_events.specs.Words.{version_read}
 use Rattle.plat_events.specs.Places.{is_data_word}
 use Rattle.plat_events.specs.Privates as events
-use Rattle.plat_events.specs.Privates.{Private, Place, first_private}
+use Rattle.plat_events.specs.Privates.{Private, Place}
 use Rattle.plat_events.specs.Scans.{entry_scanned, go_on, scan_from}
 use Rattle.plat_events.specs.Events.{access_made, is_followed, item_at, named_next}
 use Rattle.plat_handler.specs.HandlerSeen.{HandlerSeen, HandlesOn}
@@ -36,15 +34,22 @@ use Rattle.plat_proc.specs.ProcSeen.{ProcSeen}
 use Rattle.plat_proc.specs.Fits.{Fits, IsHandling}
 use Rattle.plat_proc.specs.Followed.{HasRoomFor, followed_at, followed_next, is_told, next_named}
 use Rattle.plat_proc.specs.Onwards.{MayGo, handler_at}
-use Rattle.plat_proc.specs.Places.{HandlesWell}
+use Rattle.plat_proc.specs.Places.{HandlesWell, is_access, place_seen}
 use Rattle.plat_proc.specs.Reached.{MayAccess}
 use Rattle.plat_proc.specs.declared.places.Place.TheVariants as place
 use Rattle.plat_proc.specs.declared.places.Place as code
+use Rattle.plat_proc.specs.declared.procs.Proc.TheInside.{Inside}
+use Rattle.plat_proc.specs.contracts.procs.Proc.{the_view}
 use Rattle.plat_proc.specs.Cached.{slots_at, slots_followed}
 use Rattle.plat_proc.proofs.FitsLemmas.{room-left, stands}
 use Rattle.plat_local_laws.proofs.WordLaws.{turns-few}
 
 -- ---- the place
+
+pub place-here :
+    (inside : Inside) (x : ProcSeen) (place : code.Place) → the_view inside ≡ x → inside.place ≡ place
+    → x.state.place ≡ place_seen inside.handler place
+place-here inside x place e is = sym (ap (λ (y : ProcSeen). y.state.place) e) ∙ ap (place_seen inside.handler) is
 
 pub place-stands :
     (m : Machine) (x : ProcSeen) (place : Place) → IsTrue (is_machine m) → Fits m x → x.state.place ≡ place
@@ -91,14 +96,34 @@ room-exchanged m x n seen h f t e k =
     room-here m x n (events.Exchanging seen) (access_made m x.actor x.state n) h f t e
     (ap (λ (b : Bool). if b then Some (access_made m x.actor x.state n) else None) (eq-eqb n seen k))
 
+-- ---- an access
+
+access-at :
+    (m : Machine) (a : ℕ) (p : Private) (place : Place) → PlaceOk m (answer_of m) a p place → IsTrue (is_access place)
+    → (writes : Bool) × AccessOk m a p writes
+access-at m a p (events.Polling onward) k t = absurd cc
+access-at m a p (events.Looking i moment onward) k t = absurd cc
+access-at m a p (events.Applying i message moment onward) k t = absurd cc
+access-at m a p events.Ticking k t = absurd cc
+access-at m a p (events.Switching space) k t = absurd cc
+access-at m a p events.Loading k t = (false, k)
+access-at m a p events.Expecting k t = (true, k)
+access-at m a p (events.Exchanging seen) k t = (true, k.access)
+access-at m a p (events.Locking fault) k t = absurd cc
+access-at m a p (events.InSession session) k t = absurd cc
+access-at m a p (events.Leaving e) k t = absurd cc
+access-at m a p (events.Lessening e) k t = absurd cc
+access-at m a p (events.Gone e) k t = absurd cc
+access-at m a p events.LiveLooking k t = absurd cc
+access-at m a p events.TimeLooking k t = absurd cc
+access-at m a p events.Over k t = absurd cc
+
 pub may-access :
-    (m : Machine) (x : ProcSeen) (writes : Bool) → IsTrue (is_machine m) → Fits m x → AccessOk m x.actor x.state writes → MayAccess m x
-may-access m x writes h f k = record {
-  processor = k.processor;
-  wants = k.wants;
-  right = k.right;
-  entries = (stands m x h f).standing.all_entries;
-}
+    (m : Machine) (x : ProcSeen) → IsTrue (is_machine m) → Fits m x → IsTrue (is_access x.state.place) → MayAccess m x
+may-access m x h f t =
+    let standing = (stands m x h f).standing in
+    let k = (access-at m x.actor x.state x.state.place standing.place t).1 in
+    record { processor = k.processor; wants = k.wants; right = k.right; entries = standing.all_entries }
 
 -- ---- numbers
 

@@ -7,4 +7,3 @@ pub mod Fits
 pub mod Followed
 pub mod Cached
 pub mod Granted
-pub mod Tried

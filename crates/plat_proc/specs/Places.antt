@@ -89,3 +89,22 @@ is_faulting (events.Gone e) = false
 is_faulting events.LiveLooking = false
 is_faulting events.TimeLooking = false
 is_faulting events.Over = false
+
+-- the next operation is that of an access
+abbrev pub is_access : events.Place → Bool
+is_access (events.Polling onward) = false
+is_access (events.Looking i moment onward) = false
+is_access (events.Applying i message moment onward) = false
+is_access events.Ticking = false
+is_access (events.Switching space) = false
+is_access events.Loading = true
+is_access events.Expecting = true
+is_access (events.Exchanging seen) = true
+is_access (events.Locking fault) = false
+is_access (events.InSession session) = false
+is_access (events.Leaving e) = false
+is_access (events.Lessening e) = false
+is_access (events.Gone e) = false
+is_access events.LiveLooking = false
+is_access events.TimeLooking = false
+is_access events.Over = false

@@ -4,26 +4,14 @@ ghost use Rattle.plat_base.specs.Pages.{entries_of_space};
 ghost use Rattle.plat_base.specs.Seen.{machine};
 
 use plat_base::Config;
-use plat_base::limits::SPACES;
-
-/// The entries that belong to a space. None belongs to a space that no machine has.
-fn entries_of_space(cfg: &Config, space: u32) -> &[u32]
-    ensures entries { result.now ≡ entries_of_space (machine cfg.now) space }
-    ensures few { length result.now ≤ 512 }
-{
-    if space < SPACES {
-        cfg.entries_of_space(space)
-    } else {
-        &[]
-    }
-}
 
 /// The number of entries that belong to a space.
+#[tactic(auto, using(plat_base::proofs::EntryLists::space_entries_few))]
 pub fn count_of_space(cfg: &Config, space: u32) -> u32
     ensures count { result ≡ length (entries_of_space (machine cfg.now) space) }
     ensures most { result ≤ 512 }
 {
-    entries_of_space(cfg, space).len() as u32
+    cfg.entries_of_space(space).len() as u32
 }
 
 /// The entry that stands at a place among those that belong to a space.
@@ -32,5 +20,5 @@ pub fn entry_of_space(cfg: &Config, space: u32, at: u32) -> u32
     ensures entry { result ≡ slice_index (entries_of_space (machine cfg.now) space) at }
     ensures within { result < length cfg.now.entries.items }
 {
-    entries_of_space(cfg, space)[at as usize]
+    cfg.entries_of_space(space)[at as usize]
 }

@@ -13,6 +13,3 @@ mod scans;
 mod turns;
 
 pub use procs::{Proc, Stepped};
-
-#[cfg(test)]
-mod tests;

@@ -121,6 +121,7 @@ impl Proc {
     {
         match self.place {
             Place::Faulting => self.handle(cfg, port),
+            Place::Loading | Place::Expecting | Place::Exchanging(_) => self.access(cfg, port),
             _ => self.act(cfg, port),
         }
         self.stepped()

@@ -5,7 +5,7 @@ ghost use Rattle.plat_base.specs.GuestRun.{want_of};
 ghost use Rattle.plat_base.specs.Machine.{Machine};
 ghost use Rattle.plat_base.specs.Pages.{entries_of_space};
 ghost use Rattle.plat_base.specs.Seen.{machine};
-ghost use Rattle.plat_events.specs.Events.{apply_message, at, guest_moved, is_followed, look_up, memory_now, reach_now, word_after};
+ghost use Rattle.plat_events.specs.Events.{apply_message, at, guest_moved, is_followed, look_up, memory_now, reach_now};
 ghost use Rattle.plat_events.specs.Places.{is_name};
 ghost use Rattle.plat_events.specs.Privates as events;
 ghost use Rattle.plat_events.specs.Privates.{is_over, translation_at};
@@ -18,8 +18,8 @@ ghost use Rattle.plat_proc.specs.Cached.{slots_followed, slots_looked};
 ghost use Rattle.plat_proc.specs.Fits.{Fits, IsHandling};
 ghost use Rattle.plat_proc.specs.Followed.{HasRoomFor, HasStepped, accessed, followed_next, is_told, next_named, noted};
 ghost use Rattle.plat_proc.specs.Onwards.{MayGo, handler_at};
-ghost use Rattle.plat_proc.specs.Places.{WaitsWell, is_faulting, onward_seen, place_seen};
-ghost use Rattle.plat_proc.specs.Reached.{IsReach, MayAccess, reach_seen};
+ghost use Rattle.plat_proc.specs.Places.{WaitsWell, is_access, is_faulting, onward_seen, place_seen};
+ghost use Rattle.plat_proc.specs.Reached.{GoesBy, IsReach, MayAccess, fault_reached, reach_seen};
 
 use crate::accesses::{Reached, access_of, memory_of, reach_of, word_after};
 use crate::entries::entry_of_space;
@@ -44,11 +44,21 @@ fn is_followed(cfg: &Config, name: WordName, op: Op, found: u64) -> bool
     }
 }
 
+/// Leaves no handler. One is large, so that nothing is written where there is none already.
+fn clear(handler: &mut Option<Handler>)
+    ensures { handler.new ≡ None }
+{
+    if handler.is_some() {
+        *handler = None;
+    }
+}
+
 impl Proc {
-    /// Makes the next operation of the turn, where no fault's handler makes it.
+    /// Makes the next operation of the turn, where it is neither that of an access nor that of a fault's handler.
     pub(crate) fn act<P: WordPort>(&mut self, cfg: &Config, port: &mut P)
         requires live { is_over self.old.state.place ≡ false }
         requires own { is_faulting self.old.state.place ≡ false }
+        requires turn { is_access self.old.state.place ≡ false }
         requires fits { Fits (machine cfg.now) self.old }
         requires words { AreWords (machine cfg.now) (P.words port.old) }
         requires serves { IsServed (machine cfg.now) self.old.actor self.old.state (P.serves port.old) }
@@ -69,6 +79,7 @@ impl Proc {
     fn next(&self, cfg: &Config) -> (WordName, Op)
         requires live { is_over self.now.state.place ≡ false }
         requires own { is_faulting self.now.state.place ≡ false }
+        requires turn { is_access self.now.state.place ≡ false }
         requires fits { Fits (machine cfg.now) self.now }
         ensures next { next_named (machine cfg.now) self.now ≡ Some result }
         ensures named { IsTrue (is_name (machine cfg.now) result.0) }
@@ -83,10 +94,9 @@ impl Proc {
             ),
             Place::Ticking => (WordName::Time, Op::Add(1)),
             Place::Switching(space) => (WordName::Act(q), Op::Swap(u64::from(space) + 1)),
-            Place::Loading | Place::Expecting => (self.memory(cfg), Op::Load),
-            Place::Exchanging(seen) => (self.memory(cfg), self.exchange(cfg, seen)),
             Place::Leaving(_) => (WordName::Act(q), Op::Swap(0)),
             Place::Lessening(_) => (WordName::Live, Op::Sub(1)),
+            Place::Loading | Place::Expecting | Place::Exchanging(_) => unreachable!(),
             Place::Faulting | Place::Gone(_) => unreachable!(),
         }
     }
@@ -134,32 +144,10 @@ impl Proc {
         translation
     }
 
-    /// The data word that the access reads or writes.
-    fn memory(&self, cfg: &Config) -> WordName
-        requires { MayAccess (machine cfg.now) self.now }
-        ensures { result ≡ memory_now (machine cfg.now) self.now.actor self.now.state }
-    {
-        let reach = self.reach(cfg);
-        memory_of(&reach, self.translation(&reach))
-    }
-
-    /// The write, where the word is as seen.
-    fn exchange(&self, cfg: &Config, seen: u64) -> Op
-        requires processor { self.now.actor < cfg.now.nodes }
-        requires wants { WantsAccess (machine cfg.now) self.now.actor self.now.state }
-        requires version { version_read seen < 4294967295 }
-        ensures { result
-            ≡ Op.Exchange seen (word_after (reach_now (machine cfg.now) self.now.actor self.now.state) seen) }
-    {
-        Op::Exchange {
-            old: seen,
-            new: word_after(&self.reach(cfg), seen),
-        }
-    }
-
     /// Takes in what its operation found.
     fn follow(&mut self, cfg: &Config, found: u64)
         requires own { is_faulting self.old.state.place ≡ false }
+        requires turn { is_access self.old.state.place ≡ false }
         requires fits { Fits (machine cfg.now) self.old }
         requires followed { is_told (machine cfg.now) self.old found ≡ true }
         ensures state { self.new.state ≡ followed_next (machine cfg.now) self.old found }
@@ -180,11 +168,9 @@ impl Proc {
             } => self.apply(cfg, i, message, moment, onward),
             Place::Ticking => self.tick(cfg, found),
             Place::Switching(space) => self.switch(cfg, space),
-            Place::Loading => self.access(cfg, found),
-            Place::Expecting => self.place = Place::Exchanging(found),
-            Place::Exchanging(seen) => self.write(cfg, seen, found),
             Place::Leaving(end) => self.place = Place::Lessening(end),
             Place::Lessening(end) => self.place = Place::Gone(end),
+            Place::Loading | Place::Expecting | Place::Exchanging(_) => {}
             Place::Faulting | Place::Gone(_) => {}
         }
     }
@@ -345,21 +331,38 @@ impl Proc {
             .atc
             .find(&self.pmap, reach.entry, reach.vpage, reach.kind);
         if look.found.is_some() {
-            self.handler = None;
+            clear(&mut self.handler);
             self.place = if reach.kind.is_write() {
                 Place::Expecting
             } else {
                 Place::Loading
             };
         } else {
-            let fault = Fault {
-                entry: Some(reach.entry),
-                page: reach.page,
-                cause: reach.kind.cause(),
-            };
-            self.handler = Some(Handler::start(cfg, self.q, fault, self.tick));
-            self.place = Place::Faulting;
+            self.begin_fault(cfg, reach);
         }
+    }
+
+    /// Begins the fault of an access that no translation serves: its first operation is the lock. A handler is large, so that
+    /// an access which is served is kept free of it.
+    fn begin_fault(&mut self, cfg: &Config, reach: &Reached)
+        requires processor { self.old.actor < cfg.now.nodes }
+        requires now { self.old.state.now < 4294967295 }
+        requires leads { IsReach (machine cfg.now) reach.now }
+        ensures state { self.new.state
+            ≡ at self.old.state (events.Locking (fault_reached (machine cfg.now) (reach_seen reach.now))) }
+        ensures actor { self.new.actor ≡ self.old.actor }
+        ensures room { self.new.room ≡ self.old.room }
+        ensures slots { self.new.slots ≡ self.old.slots }
+        ensures handling { IfSome self.new.handler
+            (IsHandling (machine cfg.now) self.new.actor self.new.state) }
+    {
+        let fault = Fault {
+            entry: Some(reach.entry),
+            page: reach.page,
+            cause: reach.kind.cause(),
+        };
+        self.handler = Some(Handler::start(cfg, self.q, fault, self.tick));
+        self.place = Place::Faulting;
     }
 
     /// The instruction is done, with what its load or fetch-and-add found, and the turn is over.
@@ -380,10 +383,71 @@ impl Proc {
         self.place = turn_over(cfg, self.turns);
     }
 
-    /// The access found its word.
-    fn access(&mut self, cfg: &Config, found: u64)
+    /// Makes the next operation of the access that the guest wants.
+    pub(crate) fn access<P: WordPort>(&mut self, cfg: &Config, port: &mut P)
+        requires accesses { IsTrue (is_access self.old.state.place) }
+        requires may { MayAccess (machine cfg.now) self.old }
+        requires fits { Fits (machine cfg.now) self.old }
+        requires words { AreWords (machine cfg.now) (P.words port.old) }
+        requires serves { IsServed (machine cfg.now) self.old.actor self.old.state (P.serves port.old) }
+        ensures event { HasStepped (machine cfg.now) self.old self.new (P.words port.old) (P.words port.new) }
+        ensures actor { self.new.actor ≡ self.old.actor }
+        ensures fits { Fits (machine cfg.now) self.new }
+        ensures serves { IsServed (machine cfg.now) self.new.actor self.new.state (P.serves port.new) }
+        ensures stays { P.stays port.old port.new }
+    {
+        let reach = self.reach(cfg);
+        let translation = self.translation(&reach);
+        let name = memory_of(&reach, translation);
+        let op = self.access_op(&reach);
+        let found = port.apply(place(cfg, name), op);
+        if is_followed(cfg, name, op, found) {
+            self.follow_access(cfg, &reach, translation, found);
+        }
+    }
+
+    /// The operation of an access on its word: a load, or the write, where the word is as seen.
+    fn access_op(&self, reach: &Reached) -> Op
+        requires accesses { IsTrue (is_access self.now.state.place) }
+        requires version { (n : ℕ) → self.now.state.place ≡ events.Exchanging n → version_read n < 4294967295 }
+        ensures { (m : Machine) → reach_seen reach.now ≡ reach_now m self.now.actor self.now.state
+            → next_named m self.now ≡ Some (memory_now m self.now.actor self.now.state, result) }
+    {
+        match self.place {
+            Place::Loading | Place::Expecting => Op::Load,
+            Place::Exchanging(seen) => Op::Exchange {
+                old: seen,
+                new: word_after(reach, seen),
+            },
+            _ => unreachable!(),
+        }
+    }
+
+    /// Takes in what the operation of an access found.
+    fn follow_access(&mut self, cfg: &Config, reach: &Reached, translation: Translation, found: u64)
+        requires accesses { IsTrue (is_access self.old.state.place) }
+        requires may { MayAccess (machine cfg.now) self.old }
+        requires goes { GoesBy (machine cfg.now) self.old reach.now translation }
+        requires fits { Fits (machine cfg.now) self.old }
+        requires followed { is_told (machine cfg.now) self.old found ≡ true }
+        ensures state { self.new.state ≡ followed_next (machine cfg.now) self.old found }
+        ensures actor { self.new.actor ≡ self.old.actor }
+        ensures room { self.new.room ≡ self.old.room }
+        ensures slots { self.new.slots ≡ slots_followed (machine cfg.now) self.old }
+        ensures handler { self.new.handler ≡ None }
+    {
+        match self.place {
+            Place::Loading => self.end_access(cfg, reach, translation, found),
+            Place::Exchanging(seen) => self.write(cfg, reach, translation, seen, found),
+            _ => self.place = Place::Exchanging(found),
+        }
+    }
+
+    /// The access found its word, and is over.
+    fn end_access(&mut self, cfg: &Config, reach: &Reached, translation: Translation, found: u64)
         requires handler { self.old.handler ≡ None }
         requires may { MayAccess (machine cfg.now) self.old }
+        requires goes { GoesBy (machine cfg.now) self.old reach.now translation }
         requires version { version_read found < 4294967295 }
         requires room { length self.old.state.journal < self.old.room }
         ensures state { self.new.state ≡ accessed (machine cfg.now) self.old found }
@@ -392,17 +456,24 @@ impl Proc {
         ensures slots { self.new.slots ≡ self.old.slots }
         ensures handler { self.new.handler ≡ None }
     {
-        let reach = self.reach(cfg);
-        let access = access_of(self.q, &reach, self.translation(&reach), found);
+        let access = access_of(self.q, reach, translation, found);
         self.journal.push(Item::Access(access));
         self.over(cfg, access.old);
     }
 
     /// The write was made where the word was as seen; else it is tried again.
-    fn write(&mut self, cfg: &Config, seen: u64, found: u64)
+    fn write(
+        &mut self,
+        cfg: &Config,
+        reach: &Reached,
+        translation: Translation,
+        seen: u64,
+        found: u64,
+    )
         requires at { self.old.state.place ≡ events.Exchanging seen }
         requires handler { self.old.handler ≡ None }
         requires may { MayAccess (machine cfg.now) self.old }
+        requires goes { GoesBy (machine cfg.now) self.old reach.now translation }
         requires version { version_read found < 4294967295 }
         requires room { found ≡ seen → length self.old.state.journal < self.old.room }
         ensures state { self.new.state ≡ followed_next (machine cfg.now) self.old found }
@@ -412,7 +483,7 @@ impl Proc {
         ensures handler { self.new.handler ≡ None }
     {
         if found == seen {
-            self.access(cfg, found);
+            self.end_access(cfg, reach, translation, found);
         } else {
             self.place = Place::Exchanging(found);
         }

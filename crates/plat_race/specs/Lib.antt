@@ -3,4 +3,3 @@ pub mod Marks
 pub mod Tabled
 pub mod Orders
 pub mod Searches
-pub mod Tried

@@ -11,6 +11,3 @@ mod tables;
 pub use laws::before_is_closure;
 pub use pairs::Pair;
 pub use racers::Racer;
-
-#[cfg(test)]
-mod tests;

@@ -1,7 +1,7 @@
 -- flat memory at the end of a good history
 use Rattle.std.proofs.Common.{◌≡◌, ℕ, zero, suc, ◌+◌, ◌<◌, Bool, true, false, if◌then◌else◌, List, [], ◌∷◌, ◌++◌, length, take, get_or}
-use Rattle.std.proofs.Common.{Option, Some, None, refl, ap, arith, append_assoc, subst}
-use Rattle.std.specs.Prelude.{slice_get, slice_index, IsTrue, IfSome, ◌&&◌}
+use Rattle.std.proofs.Common.{Some, None, refl, ap, arith, append_assoc, subst}
+use Rattle.std.specs.Prelude.{slice_get, slice_index, IsTrue, IfSome}
 use Rattle.std.specs.List.{flat_map}
 use Rattle.std.proofs.lemmas.List.{append-nil}
 use Rattle.std.proofs.lemmas.Option.{slice_get_read}
@@ -11,17 +11,17 @@ use Rattle.plat_base.specs.Machine.{Machine}
 use Rattle.plat_base.specs.Pages.{numbers}
 use Rattle.plat_base.specs.Flat.{flat_value}
 use Rattle.plat_base.specs.Report.{word_lines_of, page_lines}
-use Rattle.plat_base.specs.Rules.{bad_rule, bad_at, bad_after, bad_or, bad_ends, first_bad, first_rule, unless, is_ordered_access}
+use Rattle.plat_base.specs.Rules.{bad_rule, bad_after, bad_ends, first_bad, unless, is_ordered_access}
 use Rattle.plat_base.specs.Rules.{is_granted, is_legal}
 use Rattle.plat_base.specs.declared.items.Item.{Item}
 use Rattle.plat_base.specs.declared.items.Item.TheVariants as item
 use Rattle.plat_base.specs.declared.endings.Ended.{Ended}
-use Rattle.plat_base.specs.declared.statuses.Rule.{Rule}
 use Rattle.plat_base.specs.declared.statuses.Bad.{Bad}
 use Rattle.plat_flat.specs.FlatSeen.{FlatSeen, IsFlatOf, is_legal_item, place}
 use Rattle.plat_report.specs.Flats.{AreLegal, flat_lines}
 use Rattle.plat_report.proofs.WritingLemmas.{numbers_same}
 use Rattle.plat_base.proofs.RuleLemmas.{unless-none, bad_at-none, bad_or-none, first_rule-none}
+use Rattle.plat_laws.proofs.Limits.{and-left}
 
 -- ---- the rules that a good history keeps
 
@@ -52,10 +52,6 @@ unfolding first_bad
 legal_of_good m answer items ends h =
     legal-behind m answer [] 0 items (bad_or-none (bad_after m answer [] 0 items) (bad_ends m items ends) h).0
 
-both-true : (a b : Bool) → (a && b) ≡ true → a ≡ true
-both-true true b h = refl
-both-true false b h = absurd cc
-
 fine-none : (b : Bool) (x : Bad) → (if b then None else Some x) ≡ None → b ≡ true
 fine-none true x h = refl
 fine-none false x h = absurd cc
@@ -65,7 +61,7 @@ pub ends_of_good : (m : Machine) (answer : Answer) (items : List Item) (ends : L
 unfolding first_bad
 ends_of_good m answer items ends h =
     let none = (bad_or-none (bad_after m answer [] 0 items) (bad_ends m items ends) h).1 in
-    grind (arith, nat_tests, both-true, fine-none, none)
+    grind (arith, nat_tests, and-left, fine-none, none)
 
 -- ---- the lines of its words
 

@@ -5,5 +5,4 @@ pub mod Printing
 pub mod RunLemmas
 pub mod SilentLemmas
 pub mod SumLemmas
-pub mod TriedLemmas
 pub mod WritingLemmas

@@ -15,6 +15,7 @@ use Rattle.plat_base.specs.declared.guests.Want.TheVariants as want
 use Rattle.plat_base.specs.declared.items.Kind.{Kind}
 use Rattle.plat_base.specs.declared.items.Kind.TheVariants as kind
 use Rattle.plat_report.specs.Silent.{is_print}
+use Rattle.std.proofs.lemmas.Bool.{or_parts}
 
 -- what is wanted is no print
 abbrev prints_value : Want → Bool
@@ -50,10 +51,6 @@ wanted-silent m s (instr.Zero a l) h = refl
 wanted-silent m s (instr.Less a b l) h = refl
 wanted-silent m s instr.Halt h = refl
 
-head-false : (a b : Bool) → (a || b) ≡ false → a ≡ false
-head-false true b h = absurd cc
-head-false false b h = refl
-
 rest-false : (a b : Bool) → (a || b) ≡ false → b ≡ false
 rest-false true b h = absurd cc
 rest-false false b h = h
@@ -61,7 +58,7 @@ rest-false false b h = h
 next-silent : (m : Machine) (s : GuestState) (code : List Instr) (at : ℕ) → list_any is_print code ≡ false →
     prints_value (wanted_next m s (slice_get code at)) ≡ false
 next-silent m s [] at h = refl
-next-silent m s (i ∷ is) zero h = wanted-silent m s i (head-false (is_print i) (list_any is_print is) h)
+next-silent m s (i ∷ is) zero h = wanted-silent m s i (or_parts (is_print i) (list_any is_print is) h).0
 next-silent m s (i ∷ is) (suc at) h = next-silent m s is at (rest-false (is_print i) (list_any is_print is) h)
 
 access-prints : (m : Machine) (q : ℕ) (r : GuestRun) (reach : Reach) (v : Option ℕ) → r.prints ≡ [] → (with_access m q r reach v).prints

@@ -6,4 +6,3 @@ pub mod Lines
 pub mod Runs
 pub mod Silent
 pub mod Sums
-pub mod Tried

@@ -11,8 +11,6 @@ mod reports;
 mod runs;
 mod sums;
 mod tallies;
-#[cfg(test)]
-mod tests;
 mod totals;
 mod turns;
 mod words;

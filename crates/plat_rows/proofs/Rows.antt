@@ -140,7 +140,7 @@ smallest-run : coarse_run smallest (policy_answer smallest.policy) ≡ record { 
 unfolding coarse_run
 smallest-run = refl
 
-smallest-good : first_bad smallest (policy_answer smallest.policy) smallest_items smallest_ends ≡ None
+pub smallest-good : first_bad smallest (policy_answer smallest.policy) smallest_items smallest_ends ≡ None
 unfolding first_bad
 smallest-good = refl
 

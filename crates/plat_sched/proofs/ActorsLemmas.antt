@@ -1,14 +1,16 @@
 -- the live actors of a word: how many, the lowest above another, and whether one is among them
 use Rattle.std.proofs.Common.{◌≡◌, ◌≢◌, ℕ, ◌+◌, ◌-◌, ◌*◌, ◌/◌, ◌%◌, ◌^◌, ◌<◌, ◌≤◌, zero, suc, Bool, true, false, ◌&&◌, [], length, find}
-use Rattle.std.proofs.Common.{filter, nat_lt, Option, Some, None, refl, ap, sym, ◌∙◌, subst, arith, bit_or}
+use Rattle.std.proofs.Common.{leb, ⊎_elim, filter, nat_lt, Some, None, refl, ap, sym, ◌∙◌, subst, arith, bit_or}
 use Rattle.std.specs.Prelude.{◌==◌, nat_le}
 use Rattle.std.specs.List.{list_any, range_with_len}
-use Rattle.std.specs.Int.{w32}
+use Rattle.std.specs.Int.{w32, trailing_zeros}
 use Rattle.std.specs.Int.RustNames.{count_ones}
+use Rattle.std.proofs.lemmas.Bool.{cases_Bool, leb-true, leb-false}
 use Rattle.std.proofs.lemmas.Bool.Decides.{nat_tests}
-use Rattle.std.proofs.lemmas.Nat.Bits.{bit_at_lowest, bit_at-suc, bit_at-zero, bit_at_set_same, bit_at_set_other}
-use Rattle.std.specs.Option.{option_map}
-use Rattle.std.proofs.lemmas.Nat.{shr_below, zero_from_ones}
+use Rattle.std.specs.Int.{bit_at}
+use Rattle.std.proofs.lemmas.Nat.Bits.{bit_at_lowest, bit_at-suc, bit_at-zero, bit_at_set_same, bit_at_set_other, bit_at_above}
+use Rattle.std.proofs.lemmas.Nat.Bits.{bit_at-trailing_zeros}
+use Rattle.std.proofs.lemmas.Nat.{shr_below, shr_le, shr-shr, zero_from_ones}
 use lib.Count.{ones, ones_in, ones_step}
 use Rattle.plat_base.specs.Pages.{numbers}
 use Rattle.plat_sched.specs.Actors.{is_set, is_actor, most_actors, actors_of}
@@ -95,6 +97,58 @@ unfolding actors_of
 find_is live k h =
     find_agrees (is_actor live) (is_set live) (k + 1) (32 - (k + 1)) (λ j l m. grind (arith, nat_tests))
     ∙ sym (find_from (is_set live) (k + 1) 0 k (32 - (k + 1)) most_actors (omega arith) (omega (arith, most_actors_is)))
+
+-- ---- the lowest bit behind a number
+
+find_first : (p : ℕ → Bool) (a n t : ℕ) → t < n → p (a + t) ≡ true → ((j : ℕ) → j < t → p (a + j) ≡ false) →
+    find p (range_with_len a n) ≡ Some (a + t)
+find_first p a zero t l is none = absurd (omega (arith, l))
+find_first p a (suc n) zero l is none = let e : a + 0 ≡ a = omega arith in grind (arith, e, is)
+find_first p a (suc n) (suc t) l is none =
+    let e : a + 0 ≡ a = omega arith in
+    let f : a + 1 + t ≡ a + suc t = omega arith in
+    let h = none 0 (omega arith) in
+    let later = find_first p (a + 1) n t (omega (arith, l)) (ap p f ∙ is)
+    (λ j m. let g : a + 1 + j ≡ a + (j + 1) = omega arith in ap p g ∙ none (j + 1) (omega (arith, m))) in
+    grind (arith, e, f, h, later)
+
+find_nothing : (p : ℕ → Bool) (a n : ℕ) → ((j : ℕ) → a ≤ j → p j ≡ false) → find p (range_with_len a n) ≡ None
+find_nothing p a zero none = refl
+find_nothing p a (suc n) none = grind (arith, none a, find_nothing p (a + 1) n (λ j l. none j (omega arith)))
+
+-- the bits of a number behind the first k + 1
+bit_behind : (live k j : ℕ) → bit_at (live / 2 ^ k / 2) j ≡ bit_at live (k + 1 + j)
+bit_behind live k j = ap (λ (n : ℕ). n / 2 ^ j % 2) (shr-shr live k 1) ∙ ap (λ (n : ℕ). n % 2) (shr-shr live (k + 1) j)
+
+set_inside : (live i : ℕ) → live < 2 ^ 32 → bit_at live i ≡ 1 → i < 32
+set_inside live i small set =
+    ⊎_elim (λ behind. absurd (omega (arith, set, bit_at_above live 32 i small (leb-true 32 i behind)))) (λ before. leb-false 32 i before)
+    (cases_Bool (leb 32 i))
+
+pub next_behind : (live k : ℕ) → k < 32 → live < 2 ^ 32 → live / 2 ^ k / 2 ≢ 0 →
+    Some (k + 1 + trailing_zeros w32 (live / 2 ^ k / 2)) ≡ find (nat_lt k) (actors_of live)
+next_behind live k h small some =
+    let behind = live / 2 ^ k / 2 in
+    let less : live / 2 ^ k ≤ live = shr_le live k in
+    let lowest = bit_at-trailing_zeros w32 behind (omega (arith, some)) (omega (arith, less, small)) in
+    let t = trailing_zeros w32 behind in
+    let set : bit_at live (k + 1 + t) ≡ 1 = sym (bit_behind live k t) ∙ lowest.1 in
+    let inside : k + 1 + t < 32 = set_inside live (k + 1 + t) small set in
+    let none : (j : ℕ) → j < t → is_actor live (k + 1 + j) ≡ false =
+    λ j m. let clear : bit_at live (k + 1 + j) ≡ 0 = sym (bit_behind live k j) ∙ lowest.2 j m in grind (arith, nat_tests, clear) in
+    sym (sym (find_is live k h)
+    ∙ find_first (is_actor live) (k + 1) (32 - (k + 1)) t (omega (arith, inside)) (grind (arith, nat_tests, set, inside)) none)
+
+pub nobody_behind : (live k : ℕ) → k < 32 → live / 2 ^ k / 2 ≡ 0 → None ≡ find (nat_lt k) (actors_of live)
+nobody_behind live k h none =
+    sym (sym (find_is live k h) ∙ find_nothing (is_actor live) (k + 1) (32 - (k + 1)) clear)
+  where
+    clear : (j : ℕ) → k + 1 ≤ j → is_actor live j ≡ false
+    clear j l =
+        let e : k + 1 + (j - (k + 1)) ≡ j = omega (arith, l) in
+        let zeros : bit_at live j ≡ 0 =
+        ap (bit_at live) (sym e) ∙ (sym (bit_behind live k (j - (k + 1))) ∙ (ap (λ (n : ℕ). bit_at n (j - (k + 1))) none ∙ bit_at-zero _)) in
+        grind (arith, nat_tests, zeros)
 
 -- ---- for callers: the word whose bits are the numbers below n that pass a test
 

@@ -30,5 +30,10 @@ pub(crate) fn next_above(live: u32, actor: u32) -> Option<u32>
     requires { actor < 32 }
     ensures { result ≡ find (λ a. nat_lt actor a) (actors_of live) }
 {
-    (actor + 1..u32::BITS).find(|above| is_live(live, *above))
+    let above = live >> actor >> 1;
+    if above == 0 {
+        None
+    } else {
+        Some(actor + 1 + above.trailing_zeros())
+    }
 }

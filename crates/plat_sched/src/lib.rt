@@ -4,7 +4,5 @@
 mod actors;
 mod schedules;
 mod sources;
-#[cfg(test)]
-mod tests;
 
 pub use schedules::Schedule;

@@ -61,8 +61,9 @@ use Rattle.plat_session_laws.proofs.SessionGoesLaws.{shows-there, comes_on, page
 use Rattle.plat_session_laws.proofs.SteadyLaws.{steady-goes, steady-session}
 use Rattle.plat_session_laws.proofs.LastLaws.{last-granting, last-unlocking, last-continues, last-goes, stamped-by}
 use Rattle.plat_session_laws.proofs.FreshLaws.{later-fresh}
-use Rattle.plat_session_laws.proofs.GrantViewLaws.{same_translation-itself, view-bits, granted-view, with_grant, with_none}
+use Rattle.plat_session_laws.proofs.GrantViewLaws.{same_translation-itself, granted-view, with_grant, with_none}
 use Rattle.plat_laws.proofs.HistoryLaws.{good-items}
+use Rattle.plat_fine_laws.proofs.ViewFieldLaws.{view_of-bits}
 
 module _ (m : Machine) (answer : Answer) (s : Fine) (a : ℕ) (x : Session) (c : Course) (limits : IsWithinLimits m)
     (shows : Shows m answer s)
@@ -333,7 +334,7 @@ module _ (m : Machine) (answer : Answer) (s : Fine) (a : ℕ) (x : Session) (c :
         seen-after =
             (λ i. view_of q (same i) (word_at m t (word.Cmap e)) (session_view m answer q e (same i) (now-on i)) (place-still q e i)
             (page-still (page_of m e) (same i) i))
-            ∙ view-bits q o (word_at m t (word.Cmap e)) mask (seen_by o next) pv gv bits.invalidate bits.restrict
+            ∙ view_of-bits q o (word_at m t (word.Cmap e)) mask (seen_by o next) pv gv bits.invalidate bits.restrict
           where
             now-on : session_on t.privates (page_of m e) ≡ Some (running a p.now (with_phase x next))
             now-on = ap (session_on t.privates) there ∙ now-there
@@ -430,7 +431,7 @@ module _ (m : Machine) (answer : Answer) (s : Fine) (a : ℕ) (x : Session) (c :
           (λ i. view_of a (translation-own i) (new-mask i) (session_view m answer a entry (translation-own i) (now-on i))
           (place-still a entry i)
           (page-still (page_of m entry) (translation-own i) i))
-          ∙ view-bits a (Some made) number (mask a entry) (seen_by a entry (Some made) next) (pv a entry)
+          ∙ view_of-bits a (Some made) number (mask a entry) (seen_by a entry (Some made) next) (pv a entry)
           (page_view m s (page_of m entry) (Some made))
           (has_invalidate-granted n a a few) (has_restrict-granted n a a few)
         where

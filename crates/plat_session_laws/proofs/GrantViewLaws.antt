@@ -10,7 +10,6 @@ use Rattle.plat_base.specs.declared.items.Kind.TheVariants.{Store}
 use Rattle.plat_base.specs.declared.items.Translation.{Translation}
 use Rattle.plat_base.proofs.CopiesLemmas.{same_frame-itself}
 use Rattle.plat_laws.proofs.TableLaws.{same_bool-itself, same_right-itself, all_three}
-use Rattle.plat_events.specs.Words.{has_invalidate, has_restrict}
 use Rattle.plat_events.specs.Views.{Own, View, SessionView, PlaceView, PageView, EntryOk, InvalidateStays, HeldView, HeldOk, names_copy}
 use Rattle.plat_events.specs.Views.{same_translation, view_of}
 use Rattle.plat_views.specs.Facts.{ViewFacts}
@@ -27,12 +26,6 @@ same_translation-itself t =
     (eq-eqb t.seq t.seq refl) (same_bool-itself t.restricted)
 
 -- the view of two masks with the same messages for the processor
-pub view-bits :
-    (q : ℕ) (t : Option Translation) (x y : ℕ) (sv : SessionView) (pv : PlaceView) (gv : PageView) →
-    has_invalidate x q ≡ has_invalidate y q → has_restrict x q ≡ has_restrict y q → view_of q t x sv pv gv ≡ view_of q t y sv pv gv
-view-bits q t x y sv pv gv invalidates restricts =
-    λ i. record (view_of q t y sv pv gv) { invalidate = invalidates i; restrict = restricts i }
-
 -- the translation is there, as the session grants it
 abbrev got : (writes copy kept given : Bool) → View → View
 got w c k g v = record v {

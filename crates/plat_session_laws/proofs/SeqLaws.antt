@@ -11,7 +11,7 @@ use Rattle.plat_base.specs.Items.{is_change}
 use Rattle.plat_base.specs.Verdicts.{Answer}
 use Rattle.plat_base.specs.Machine.{Machine}
 use Rattle.plat_base.specs.Pages.{numbers}
-use Rattle.plat_base.specs.Directories.{change_of, seq_of, seq_after}
+use Rattle.plat_base.specs.Directories.{change_on, seq_of, seq_after}
 use Rattle.plat_base.specs.Alike.{same_dir}
 use Rattle.plat_base.specs.Rules.{bad_rule, bad_after, has_daemon, is_chained, is_fault_change, is_thaw_change}
 use Rattle.plat_base.specs.Directories.{dir_of}
@@ -50,14 +50,14 @@ counts i is = sum_by-cons (λ (x : Item). cond (is_change x) 1 0) i is ∙ by (i
 -- ---- the changes of a page are among all changes
 
 seq-counted :
-    (page n : ℕ) (items : List Item) → fold (λ k i. seq_after k (change_of page i)) n items ≤ n + changes_in items
+    (page n : ℕ) (items : List Item) → fold (λ k i. seq_after k (change_on page i)) n items ≤ n + changes_in items
 seq-counted page n [] = omega arith
 seq-counted page n (item.Access x ∷ is) = omega (arith, seq-counted page n is, counts (item.Access x) is)
 seq-counted page n (item.Change c ∷ is) = by (c.page == page) (λ k. seq-counted page k is)
   where
     by :
-        (b : Bool) → ((k : ℕ) → fold (λ j i. seq_after j (change_of page i)) k is ≤ k + changes_in is) →
-        fold (λ k i. seq_after k (change_of page i)) (seq_after n (if b then Some c else None)) is ≤ n + changes_in (item.Change c ∷ is)
+        (b : Bool) → ((k : ℕ) → fold (λ j i. seq_after j (change_on page i)) k is ≤ k + changes_in is) →
+        fold (λ k i. seq_after k (change_on page i)) (seq_after n (if b then Some c else None)) is ≤ n + changes_in (item.Change c ∷ is)
     by true more = omega (arith, more (n + 1), counts (item.Change c) is)
     by false more = omega (arith, more n, counts (item.Change c) is)
 seq-counted page n (item.Applied x ∷ is) = omega (arith, seq-counted page n is, counts (item.Applied x) is)

@@ -9,7 +9,7 @@ use Rattle.std.proofs.lemmas.Bool.Decides.{nat_tests}
 use Rattle.std.proofs.lemmas.Nat.{mul-le}
 use Rattle.plat_base.specs.Verdicts.{Answer}
 use Rattle.plat_base.specs.Machine.{Machine}
-use Rattle.plat_base.specs.Directories.{change_of, last_of, last_after, sets_last}
+use Rattle.plat_base.specs.Directories.{change_on, last_of, last_after, sets_last}
 use Rattle.plat_base.specs.GuestRun.{want_of}
 use Rattle.plat_base.specs.declared.guests.Want.{Want}
 use Rattle.plat_base.specs.declared.guests.Want.TheVariants as want
@@ -203,7 +203,7 @@ timely-by n (i ∷ is) known each =
 
 last-small :
     (page : ℕ) (last : Option ℕ) (items : List Item) → list_all is_timely items ≡ true → last_number last < 4294967296 →
-    last_number (fold (λ l i. last_after l (change_of page i)) last items) < 4294967296
+    last_number (fold (λ l i. last_after l (change_on page i)) last items) < 4294967296
 last-small page last [] all small = small
 last-small page last (item.Access x ∷ is) all small = last-small page last is all small
 last-small page last (item.Change c ∷ is) all small =
@@ -212,8 +212,8 @@ last-small page last (item.Change c ∷ is) all small =
   where
     by :
         (b : Bool) → nat_lt c.time 4294967295 ≡ true →
-        ((l : Option ℕ) → last_number l < 4294967296 → last_number (fold (λ k i. last_after k (change_of page i)) l is) < 4294967296) →
-        last_number (fold (λ k i. last_after k (change_of page i)) (last_after last (if b then Some c else None)) is) < 4294967296
+        ((l : Option ℕ) → last_number l < 4294967296 → last_number (fold (λ k i. last_after k (change_on page i)) l is) < 4294967296) →
+        last_number (fold (λ k i. last_after k (change_on page i)) (last_after last (if b then Some c else None)) is) < 4294967296
     by false time more = more last small
     by true time more = more (if sets_last c.action then Some c.time else last) (one (sets_last c.action))
       where

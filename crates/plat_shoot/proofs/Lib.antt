@@ -1,4 +1,5 @@
-pub mod EntryLemmas
+pub mod WalkLemmas
 pub mod TargetLemmas
 pub mod PostLemmas
 pub mod FitLemmas
+pub mod PassedLemmas

@@ -1,6 +1,6 @@
 -- the targets of a shootdown, as a search goes past them
-use Rattle.std.proofs.Common.{◌≡◌, ℕ, zero, suc, ◌+◌, ◌*◌, ◌<◌, ◌≤◌, Bool, true, false, inl, inr, List, [], ◌∷◌, ◌++◌, length, map, drop}
-use Rattle.std.proofs.Common.{filter, get_or, Some, None, refl, ap, ◌∙◌, arith}
+use Rattle.std.proofs.Common.{◌≡◌, ℕ, zero, suc, ◌+◌, ◌*◌, ◌<◌, ◌≤◌, true, false, inl, inr, List, [], ◌∷◌, ◌++◌, length, map, drop}
+use Rattle.std.proofs.Common.{get_or, Some, None, refl, ap, ◌∙◌, arith}
 use Rattle.std.specs.Prelude.{◌==◌, nat_lt, ◌&&◌, not, slice_get}
 use Rattle.std.specs.Option.{option_map}
 use Rattle.std.specs.List.{flat_map, zip}
@@ -11,15 +11,15 @@ use Rattle.std.proofs.lemmas.Bool.{cases_lt}
 use Rattle.std.proofs.lemmas.Bool.Decides.{nat_tests}
 use Rattle.plat_base.specs.Seen.{machine}
 use Rattle.plat_base.specs.declared.configs.Config.{Config}
+use Rattle.plat_base.proofs.EntryLists.{page_entries_few}
 use Rattle.plat_base.proofs.LimitLemmas.{nodes_most}
-use Rattle.plat_base.proofs.EntryLimits.{entries_most_of}
 use Rattle.plat_base.specs.Machine.{Machine}
-use Rattle.plat_base.specs.Pages.{page_of, numbers, entries_of_page}
+use Rattle.plat_base.specs.Pages.{numbers, entries_of_page}
 use Rattle.plat_events.specs.Words.{has_reference}
 use Rattle.plat_events.specs.Shootdowns as events
 use Rattle.plat_events.specs.Shootdowns.{targets, targets_of, ask_from, Makes, Done, Asking, no_target}
 use Rattle.plat_shoot.specs.Sought.{others}
-use Rattle.plat_shoot.proofs.EntryLemmas.{rest_from}
+use Rattle.plat_shoot.proofs.WalkLemmas.{rest_from}
 use Rattle.plat_base.proofs.ListLemmas.{slice_get-append, length-filter}
 
 -- the other references of a mask from processor q on
@@ -31,7 +31,7 @@ abbrev pub targets_from : Machine → (actor page : ℕ) → (posts : List ℕ) 
 targets_from m actor page posts i =
     flat_map (λ (x : ℕ × ℕ). targets_of m actor x.0 x.1) (drop i (zip (entries_of_page m page) posts))
 
-get_behind : {T : Type 0} (xs ys : List T) (left at : ℕ) → length xs + left ≡ at → slice_get (xs ++ ys) at ≡ slice_get ys left
+pub get_behind : {T : Type 0} (xs ys : List T) (left at : ℕ) → length xs + left ≡ at → slice_get (xs ++ ys) at ≡ slice_get ys left
 get_behind [] ys left at h = ap (λ n. slice_get ys n) (omega arith)
 get_behind (x ∷ xs) ys left zero h = absurd (omega arith)
 get_behind (x ∷ xs) ys left (suc at) h = get_behind xs ys left at (omega arith)
@@ -52,6 +52,14 @@ pair_at (x ∷ es) (y ∷ ms) (suc i) e mask h k p q =
     let same : suc (i + 1) ≡ suc i + 1 = omega arith in
     pair_at es ms i e mask (omega arith) (omega arith) p q
     ∙ ap (λ (zs : List (ℕ × ℕ)). (e, mask) ∷ zs) (ap (λ (n : ℕ). drop n ((x, y) ∷ zip es ms)) same)
+
+length-map_targets : (e : ℕ) (qs : List ℕ) → length (map (λ q. let t : events.Target = record { entry = e; processor = q } in t) qs)
+    ≡ length qs
+length-map_targets e [] = refl
+length-map_targets e (q ∷ qs) = ap suc (length-map_targets e qs)
+
+pub length-targets_of : (m : Machine) (actor e mask : ℕ) → length (targets_of m actor e mask) ≡ length (others m.nodes actor mask)
+length-targets_of m actor e mask = length-map_targets e (others m.nodes actor mask)
 
 module _ (m : Machine) (actor page : ℕ) (posts : List ℕ) (i : ℕ) where
   pub targets_from-end : length (zip (entries_of_page m page) posts) ≤ i → targets_from m actor page posts i ≡ []
@@ -87,18 +95,9 @@ module _ (m : Machine) (actor page : ℕ) (posts : List ℕ) (i : ℕ) where
     target-left at left more t f =
         t ∙ ap (λ (ts : List events.Target). slice_get ts left) targets_from-next
         ∙ get_behind (targets_of m actor e mask) (targets_from m actor page posts (i + 1)) more left
-        (grind (arith, count (others m.nodes actor mask)))
-      where
-        count : (qs : List ℕ) → length (map (λ q. let t : events.Target = record { entry = e; processor = q } in t) qs) ≡ length qs
-        count [] = refl
-        count (q ∷ qs) = ap suc (count qs)
+        (grind (arith, length-map_targets e (others m.nodes actor mask)))
 
 -- ---- how many there are
-
-length-map_targets : (e : ℕ) (qs : List ℕ) → length (map (λ q. let t : events.Target = record { entry = e; processor = q } in t) qs)
-    ≡ length qs
-length-map_targets e [] = refl
-length-map_targets e (q ∷ qs) = ap suc (length-map_targets e qs)
 
 targets_of-few : (m : Machine) (a e mask : ℕ) → m.nodes ≤ 8 → length (targets_of m a e mask) ≤ 8
 targets_of-few m a e mask h =
@@ -126,22 +125,13 @@ zip-few [] ms = omega arith
 zip-few (e ∷ es) [] = omega arith
 zip-few (e ∷ es) (n ∷ ms) = omega (arith, zip-few es ms)
 
-pub entries_of_page-few : (cfg : Config) (page : ℕ) → length (entries_of_page (machine cfg) page) ≤ 512
-entries_of_page-few cfg page =
-    omega (
-      arith,
-      length-filter (λ e. page_of (machine cfg) e == page) (numbers (length cfg.entries.items)),
-      length-range_with_len 0 (length cfg.entries.items),
-      entries_most_of cfg,
-    )
-
 pub targets-few : (cfg : Config) (a page : ℕ) (posts : List ℕ) → length (targets (machine cfg) a page posts) ≤ 4096
 targets-few cfg a page posts =
     omega (
       arith,
       flat-few (machine cfg) a (zip (entries_of_page (machine cfg) page) posts) (nodes_most cfg),
       zip-few (entries_of_page (machine cfg) page) posts,
-      entries_of_page-few cfg page,
+      page_entries_few cfg page,
     )
 
 -- ---- whether one is left

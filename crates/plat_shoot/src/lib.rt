@@ -12,6 +12,3 @@ mod targets;
 
 pub use needs::{Need, Own};
 pub use shoots::Shoot;
-
-#[cfg(test)]
-mod tests;

@@ -8,6 +8,7 @@ ghost use Rattle.plat_shoot.specs.ShootSeen.{is_finished, watch_again, own_after
 use crate::needs::{Need, Own};
 use crate::orders::{Order, Posts, after, name_of, operation, own_post, shoot_from};
 use crate::steps::{Shot, Step};
+use crate::targets::Passed;
 use arrayvec::ArrayVec;
 use plat_base::{Config, Removed};
 use plat_words::{is_word, place};
@@ -20,11 +21,13 @@ use std::marker::Model;
 pub struct Shoot {
     order: Order,
     posts: Posts,
+    passed: Passed,
     step: Step,
 }
 
 impl Model for Shoot {
     ghost use Rattle.plat_shoot.specs.ShootSeen.{ShootSeen};
+    ghost use Rattle.plat_shoot.specs.Sought.{HasPassed};
     ghost use Rattle.plat_shoot.specs.Steps.{shoot_seen};
 
     ghost Value = { ShootSeen };
@@ -35,6 +38,8 @@ impl Model for Shoot {
       removed = it.order.removed;
       shoot = shoot_seen it.posts.items it.step;
     } };
+
+    ghost invariant = { λ it. HasPassed it.order.actor it.posts.items it.passed };
 }
 
 impl Shoot {
@@ -52,8 +57,14 @@ impl Shoot {
             removed,
         };
         let posts = ArrayVec::new();
-        let step = shoot_from(cfg, order, posts.as_slice());
-        Shoot { order, posts, step }
+        let mut passed = Passed::none(cfg.nodes);
+        let step = shoot_from(cfg, order, posts.as_slice(), &mut passed);
+        Shoot {
+            order,
+            posts,
+            passed,
+            step,
+        }
     }
 
     /// What it needs next.
@@ -63,7 +74,13 @@ impl Shoot {
     {
         match self.step {
             Step::Makes(shot) => {
-                let (name, op) = operation(cfg, self.order, self.posts.as_slice(), shot);
+                let (name, op) = operation(
+                    cfg,
+                    self.order,
+                    self.posts.as_slice(),
+                    self.passed,
+                    shot,
+                );
                 Need::Word {
                     at: place(cfg, name),
                     op,
@@ -101,12 +118,19 @@ impl Shoot {
         let Step::Makes(shot) = self.step else {
             unreachable!()
         };
-        let name = name_of(cfg, self.order, self.posts.as_slice(), shot);
+        let name = name_of(cfg, self.order, self.posts.as_slice(), self.passed, shot);
         if !is_word(cfg, name, old) {
             return Own::Nothing;
         }
         let entry = own_post(cfg, self.order, self.posts.as_slice(), shot, old);
-        self.step = after(cfg, self.order, &mut self.posts, shot, old);
+        self.step = after(
+            cfg,
+            self.order,
+            &mut self.posts,
+            &mut self.passed,
+            shot,
+            old,
+        );
         own_of(self.order.removed, entry)
     }
 

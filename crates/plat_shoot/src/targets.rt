@@ -1,12 +1,13 @@
 //! The targets of a shootdown: the processors that its messages went to.
-ghost use Rattle.std.specs.Prelude.{◌≡◌, ◌<◌, ◌≤◌, ◌&&◌, ◌==◌, not, length, slice_get, IfSome};
+ghost use Rattle.std.specs.Prelude.{◌≡◌, ℕ, ◌+◌, ◌<◌, ◌≤◌, ◌&&◌, ◌==◌, not, List, length, slice_get, IfSome};
 ghost use Rattle.std.specs.Option.{option_map};
+ghost use Rattle.plat_base.specs.Pages.{entries_of_page};
 ghost use Rattle.plat_base.specs.Seen.{machine};
 ghost use Rattle.plat_events.specs.Shootdowns.{targets};
 ghost use Rattle.plat_events.specs.Words.{has_reference};
-ghost use Rattle.plat_shoot.specs.Sought.{target_seen, others, IsSought, IsWithin};
+ghost use Rattle.plat_shoot.specs.Sought.{found_seen, others, HasPassed, IsAt, IsSought, IsWithin};
 
-use crate::entries::entries_of_page;
+use crate::entries::count_of_page;
 use crate::masks::has_reference;
 use plat_base::Config;
 
@@ -24,6 +25,52 @@ pub enum Sought {
     Found(u32),
     /// Behind the last one, with so many still to be passed.
     Left(u32),
+}
+
+/// The first posts of a shootdown, and how many targets they have on a machine of so many nodes: a search for a later target
+/// need not look at them again.
+#[derive(Clone, Copy, Debug)]
+pub struct Passed {
+    nodes: u32,
+    posts: usize,
+    targets: u32,
+}
+
+impl Passed {
+    /// No post.
+    pub fn none(nodes: u32) -> Passed
+        ensures passed { (actor : ℕ) (posts : List ℕ) → HasPassed actor posts result }
+        ensures nodes { result.nodes ≡ nodes }
+        ensures posts { result.posts ≡ 0 }
+        ensures targets { result.targets ≡ 0 }
+    {
+        Passed {
+            nodes,
+            posts: 0,
+            targets: 0,
+        }
+    }
+
+    /// One more post, with which there are so many targets.
+    fn past(self, targets: u32) -> Passed
+        requires { self.posts < 18446744073709551615 }
+        ensures nodes { result.nodes ≡ self.nodes }
+        ensures posts { result.posts ≡ self.posts + 1 }
+        ensures targets { result.targets ≡ targets }
+    {
+        Passed {
+            nodes: self.nodes,
+            posts: self.posts + 1,
+            targets,
+        }
+    }
+}
+
+/// A target, and the posts before the one that it has.
+#[derive(Clone, Copy)]
+pub struct Found {
+    pub target: Target,
+    pub passed: Passed,
 }
 
 /// Whether processor `q`, other than the actor, has a reference.
@@ -51,25 +98,74 @@ fn other_at(cfg: &Config, actor: u32, mask: u64, at: u32) -> Sought
     Sought::Left(left)
 }
 
-/// The target at place `at`: by entry, and then by processor. `posts` are the masks that were found at the first entries
-/// that lead to the page.
-pub fn target_at(cfg: &Config, actor: u32, page: u32, posts: &[u64], at: u32) -> Option<Target>
-    ensures target { option_map target_seen result
-        ≡ slice_get (targets (machine cfg.now) actor page posts.now) at }
-    ensures entry { IfSome result (λ t. t.entry < length cfg.now.entries.items) }
-    ensures processor { IfSome result (λ t. t.processor < cfg.now.nodes) }
+/// Where a search begins among so many posts: where the last one ended, or at the first post where that was past `at`.
+fn first_of(cfg: &Config, count: usize, passed: Passed, at: u32) -> Passed
+    ensures passed { (actor : ℕ) (posts : List ℕ) → HasPassed actor posts passed → HasPassed actor posts result }
+    ensures nodes { result.nodes ≡ cfg.now.nodes }
+    ensures posts { result.posts ≤ count }
+    ensures targets { result.targets ≤ at }
 {
-    let mut left = at;
-    for (entry, mask) in entries_of_page(cfg, page).iter().zip(posts) {
-        match other_at(cfg, actor, *mask, left) {
+    if passed.nodes == cfg.nodes && passed.posts <= count && passed.targets <= at {
+        passed
+    } else {
+        Passed::none(cfg.nodes)
+    }
+}
+
+/// The target at place `at`, behind the first posts.
+fn target_from(
+    cfg: &Config,
+    actor: u32,
+    page: u32,
+    posts: &[u64],
+    first: Passed,
+    at: u32,
+) -> Option<Found>
+    requires begins { IsAt cfg.now.nodes actor posts.now at first }
+    requires entries { first.posts ≤ length (entries_of_page (machine cfg.now) page) }
+    ensures target { option_map found_seen result
+        ≡ slice_get (targets (machine cfg.now) actor page posts.now) at }
+    ensures entry { IfSome result (λ f. f.target.entry < length cfg.now.entries.items) }
+    ensures processor { IfSome result (λ f. f.target.processor < cfg.now.nodes) }
+    ensures passed { IfSome result (λ f. HasPassed actor posts.now f.passed) }
+{
+    let entries = &cfg.entries_of_page(page)[first.posts..];
+    let mut here = first;
+    for (entry, mask) in entries.iter().zip(&posts[first.posts..]) {
+        match other_at(cfg, actor, *mask, at - here.targets) {
             Sought::Found(processor) => {
-                return Some(Target {
+                let target = Target {
                     entry: *entry,
                     processor,
+                };
+                return Some(Found {
+                    target,
+                    passed: here,
                 });
             }
-            Sought::Left(more) => left = more,
+            Sought::Left(left) => here = here.past(at - left),
         }
     }
     None
+}
+
+/// The target at place `at`: by entry, and then by processor. `posts` are the masks that were found at the first entries
+/// that lead to the page, and `passed` is where an earlier search ended.
+pub fn target_at(
+    cfg: &Config,
+    actor: u32,
+    page: u32,
+    posts: &[u64],
+    passed: Passed,
+    at: u32,
+) -> Option<Found>
+    requires { HasPassed actor posts.now passed }
+    ensures target { option_map found_seen result
+        ≡ slice_get (targets (machine cfg.now) actor page posts.now) at }
+    ensures entry { IfSome result (λ f. f.target.entry < length cfg.now.entries.items) }
+    ensures processor { IfSome result (λ f. f.target.processor < cfg.now.nodes) }
+    ensures passed { IfSome result (λ f. HasPassed actor posts.now f.passed) }
+{
+    let first = first_of(cfg, count_of_page(cfg, page), passed, at);
+    target_from(cfg, actor, page, posts, first, at)
 }

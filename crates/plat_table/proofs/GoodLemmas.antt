@@ -2,7 +2,6 @@
 use Rattle.std.proofs.Common.{◌≡◌, ℕ, zero, suc, ◌<◌, ◌≤◌, Bool, true, false, List, [], ◌∷◌, length, refl, sym, ap, ◌∙◌, subst, arith}
 use Rattle.std.specs.Prelude.{◌==◌, if◌then◌else◌, nat_lt, All, IsTrue, Option, Some, None, slice_index, slice_index_or}
 use Rattle.std.proofs.lemmas.Bool.{ne_eqb, ltb-true, ltb-false}
-use Rattle.std.proofs.lemmas.Bool.Decides.{nat_tests}
 use Rattle.std.proofs.lemmas.List.{length-set, length-map}
 use Rattle.std.proofs.lemmas.List.Elements.{All-nil, All-push, All-head, All-tail}
 use Rattle.std.proofs.lemmas.List.FromFn.{length-range_with_len}
@@ -27,6 +26,7 @@ use Rattle.plat_fine_laws.specs.Changes.{IsBy}
 use Rattle.plat_event_laws.proofs.RunLaws.{run-shows}
 use Rattle.plat_table.specs.Closed.{ClosedSeen, IsRun, HasGoodHistory, journals_in}
 use Rattle.plat_table.proofs.RunLemmas.{event-is}
+use Rattle.plat_fine_laws.proofs.MadeLaws.{made-by as some-by}
 
 -- ---- each item is its actor's
 
@@ -35,9 +35,6 @@ none-by a = λ i e. absurd cc
 
 same-item : (i j : Item) → Some i ≡ Some j → i ≡ j
 same-item i j e = cc
-
-some-by : (a : ℕ) (j : Item) → actor_of j ≡ a → IsBy a (Some j)
-some-by a j h = λ i e. ap actor_of (sym (same-item j i e)) ∙ h
 
 if-by : (a : ℕ) (b : Bool) (j : Item) → actor_of j ≡ a → IsBy a (if b then Some j else None)
 if-by a true j h = some-by a j h

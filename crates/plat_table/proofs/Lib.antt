@@ -8,4 +8,3 @@ pub mod RiderLemmas
 pub mod BoardLemmas
 pub mod ClosedLemmas
 pub mod GoodLemmas
-pub mod TriedLemmas

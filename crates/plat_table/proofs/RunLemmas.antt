@@ -1,5 +1,5 @@
 -- a run with one more event
-use Rattle.std.proofs.Common.{◌≡◌, ℕ, List, [], ◌∷◌, ◌++◌, refl, ap, ◌∙◌}
+use Rattle.std.proofs.Common.{◌≡◌, ℕ, List, [], ◌∷◌, ◌++◌, refl, ap, ◌∙◌, map}
 use Rattle.std.proofs.lemmas.List.Sums.{fold-append}
 use Rattle.std.specs.Prelude.{Some, slice_get, slice_set, slice_index}
 use Rattle.plat_base.specs.Machine.{Machine}
@@ -9,6 +9,8 @@ use Rattle.plat_events.specs.Operations.{written, told}
 use Rattle.plat_events.specs.Privates.{Private}
 use Rattle.plat_events.specs.Events.{next_of, after}
 use Rattle.plat_events.specs.Runs.{Fine, fine_start, event, event_at, event_by, run, run_from, IsLive, AllLive, Reached}
+use Rattle.plat_table.specs.Riders.{numbers_of}
+use Rattle.plat_table.specs.Rule.{held_first}
 
 run-more : (m : Machine) (answer : Answer) (who : List ℕ) (a : ℕ) → run m answer (who ++ a ∷ []) ≡ event m answer (run m answer who) a
 unfolding run
@@ -57,3 +59,8 @@ reached-event m words privates who a p x r there next =
 pub reached-start : (m : Machine) → Reached m (policy_answer m.policy) (fine_start m).words (fine_start m).privates []
 unfolding run
 reached-start m = record { words_are = refl; privates_are = refl; live = tt }
+
+-- the numbers of actors that have just begun
+pub numbers-first : (m : Machine) (actors : List ℕ) → numbers_of (map (held_first m) actors) ≡ actors
+numbers-first m [] = refl
+numbers-first m (a ∷ actors) = ap (λ (xs : List ℕ). a ∷ xs) (numbers-first m actors)

@@ -14,6 +14,3 @@ pub use boards::{Board, Closed};
 pub use gates::{FreeGate, Gate};
 pub use plat_daemon::Went;
 pub use riders::Rider;
-
-#[cfg(test)]
-mod tests;

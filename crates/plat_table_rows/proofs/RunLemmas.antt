@@ -1,7 +1,7 @@
 -- actors that have ended, all actors of a machine, and their journals
-use Rattle.std.proofs.Common.{◌≡◌, ℕ, zero, suc, ◌+◌, ◌<◌, Bool, true, false, List, [], ◌∷◌, length, map, refl, sym, ap, ◌∙◌, subst, inl}
+use Rattle.std.proofs.Common.{◌≡◌, ℕ, zero, suc, ◌+◌, ◌<◌, Bool, true, false, List, [], ◌∷◌, length, map, sym, ap, ◌∙◌, subst, inl}
 use Rattle.std.proofs.Common.{inr, arith}
-use Rattle.std.specs.Prelude.{◌⊎◌, not, All, replicate, slice_index_or}
+use Rattle.std.specs.Prelude.{◌⊎◌, All, replicate, slice_index_or}
 use Rattle.std.specs.Option.{option_to_list}
 use Rattle.std.proofs.Math.Nat.{eq-or-lt_of_le}
 use Rattle.std.proofs.lemmas.List.{length-map, length-append, length-replicate}
@@ -14,6 +14,7 @@ use Rattle.plat_base.specs.declared.policies.PolicyKind.TheVariants as policy
 use Rattle.plat_events.specs.Privates.{actor_count, is_over}
 use Rattle.plat_table.specs.Riders.{BoardSeen, RiderSeen, AreOver, IsOf, is_live_at, numbers_of}
 use Rattle.plat_table.specs.Rule.{Held, held_first}
+use Rattle.plat_table.proofs.RunLemmas.{numbers-first}
 
 -- ---- the end of every actor
 
@@ -44,10 +45,6 @@ pub all_ended : (crew : List Held) (n : ℕ) → AreOverBelow crew n → n ≡ l
 all_ended crew n below e = λ k d b. over-at crew k d (below.ended k (omega (arith, e, b))) b
 
 -- ---- all actors of a machine
-
-numbers-first : (m : Machine) (actors : List ℕ) → numbers_of (map (held_first m) actors) ≡ actors
-numbers-first m [] = refl
-numbers-first m (a ∷ actors) = ap (λ (xs : List ℕ). a ∷ xs) (numbers-first m actors)
 
 pub first_numbers :
     (m : Machine) (crew : List Held) → crew ≡ map (held_first m) (numbers (actor_count m)) → numbers_of crew ≡ numbers (actor_count m)

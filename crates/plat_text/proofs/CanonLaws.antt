@@ -1,27 +1,29 @@
 -- a canonical text is not longer than a text with its word lists
-use Rattle.std.proofs.Common.{◌≡◌, ℕ, suc, zero, ◌+◌, ◌<◌, ◌≤◌, Bool, true, false, not, cond, eqb, List, [], ◌∷◌, ◌++◌, length, map, refl}
-use Rattle.std.proofs.Common.{ap, sym, ◌∙◌, arith, length-append}
-use Rattle.std.specs.List.{AllByRecursion, slice_split, flat_map, filter}
+use Rattle.std.proofs.Common.{◌≡◌, ℕ, ◌+◌, ◌<◌, ◌≤◌, Bool, true, false, cond, List, [], ◌∷◌, ◌++◌, length, refl}
+use Rattle.std.proofs.Common.{arith, length-append}
+use Rattle.std.specs.List.{AllByRecursion, slice_split, flat_map}
 use Rattle.std.proofs.lemmas.Bool.{eqb-true}
-use Rattle.std.proofs.lemmas.Bool.Decides.{nat_tests}
 use Rattle.std.proofs.lemmas.List.Splits.{length-slice_split}
-use Rattle.plat_grammar.specs.Lines.{LineText, is_feed, is_empty, numbered, lines_of, words_of, texts}
+use Rattle.plat_grammar.specs.Lines.{LineText, is_feed, is_empty, numbered, lines_of}
 use Rattle.plat_base.specs.Text.{line_bytes, text_bytes}
 use Rattle.plat_grammar.specs.Grammar.{IsClean, line_words, has_words, word_lists}
-use Rattle.plat_text.specs.Sizes.{lines_size}
 use Rattle.plat_text.proofs.SizeLemmas.{words_of-size, parts_size, split-size}
-use Rattle.plat_text.proofs.SectionLaws.{list_size, lists_size, spelled-size}
 
 -- ---- the bytes of a canonical text
 
-abbrev pub AreLines : List (List (List ℕ)) → Type 0
+-- the bytes of lists of words, one more after each word
+abbrev lists_size : List (List (List ℕ)) → ℕ
+lists_size [] = 0
+lists_size (l ∷ ls) = parts_size l + lists_size ls
+
+abbrev AreLines : List (List (List ℕ)) → Type 0
 AreLines lines = AllByRecursion (λ l. has_words l ≡ true) lines
 
-others-size : (ws : List (List ℕ)) → length (flat_map (λ v. 32 ∷ v) ws) ≡ list_size ws
+others-size : (ws : List (List ℕ)) → length (flat_map (λ v. 32 ∷ v) ws) ≡ parts_size ws
 others-size [] = refl
 others-size (w ∷ ws) = omega (arith, length-append w (flat_map (λ v. 32 ∷ v) ws), others-size ws)
 
-line-size : (l : List (List ℕ)) → has_words l ≡ true → length (line_bytes l) ≡ list_size l
+line-size : (l : List (List ℕ)) → has_words l ≡ true → length (line_bytes l) ≡ parts_size l
 line-size [] h = cc
 line-size (w ∷ ws) h = omega (
   arith,
@@ -30,11 +32,11 @@ line-size (w ∷ ws) h = omega (
   others-size ws,
 )
 
-pub text_bytes-size : (lines : List (List (List ℕ))) → AreLines lines → length (text_bytes lines) ≡ lists_size lines
+text_bytes-size : (lines : List (List (List ℕ))) → AreLines lines → length (text_bytes lines) ≡ lists_size lines
 text_bytes-size [] h = refl
 text_bytes-size (l ∷ ls) h = omega (arith, length-append (line_bytes l) (text_bytes ls), line-size l h.0, text_bytes-size ls h.1)
 
-pub word_lists-are_lines : (ls : List LineText) → AreLines (word_lists ls)
+word_lists-are_lines : (ls : List LineText) → AreLines (word_lists ls)
 word_lists-are_lines [] = tt
 word_lists-are_lines (l ∷ ls) = by_test (has_words (line_words l)) refl (word_lists-are_lines ls) where
   by_test : (v : Bool) → has_words (line_words l) ≡ v → AreLines (word_lists ls) →
@@ -44,15 +46,17 @@ word_lists-are_lines (l ∷ ls) = by_test (has_words (line_words l)) refl (word_
 
 -- ---- and those of the text
 
-list-size-le : (l : LineText) → list_size (line_words l) ≤ length l.bytes + 1
-list-size-le l = omega (arith, spelled-size (words_of l.bytes), words_of-size l.bytes)
+-- the bytes of lines, one more after each
+abbrev lines_size : List LineText → ℕ
+lines_size [] = 0
+lines_size (l ∷ ls) = length l.bytes + 1 + lines_size ls
 
 lists-size-le : (ls : List LineText) → lists_size (word_lists ls) ≤ lines_size ls
 lists-size-le [] = omega arith
 lists-size-le (l ∷ ls) = by_test (has_words (line_words l)) (lists-size-le ls) where
   by_test : (v : Bool) → lists_size (word_lists ls) ≤ lines_size ls →
       lists_size (cond v (line_words l ∷ word_lists ls) (word_lists ls)) ≤ length l.bytes + 1 + lines_size ls
-  by_test true h = omega (arith, h, list-size-le l)
+  by_test true h = omega (arith, h, words_of-size l.bytes)
   by_test false h = omega (arith, h)
 
 ended-size : (n : ℕ) (ps : List (List ℕ)) → 0 < length ps → AllByRecursion IsClean (numbered n ps) →

@@ -1,5 +1,5 @@
 -- forms and tails: what is read is spelled so, and what is spelled so is read
-use Rattle.std.proofs.Common.{◌≡◌, ℕ, suc, zero, ◌+◌, ◌<◌, ◌≤◌, Bool, true, false, cond, eqb, ltb, leb, List, [], ◌∷◌, ◌++◌, length, map}
+use Rattle.std.proofs.Common.{◌≡◌, ℕ, suc, ◌+◌, ◌≤◌, false, eqb, leb, List, [], ◌∷◌, ◌++◌, length, map}
 use Rattle.std.proofs.Common.{Option, Some, None, Result, Ok, Err, bytes_eq, refl, ap, sym, ◌∙◌, subst, arith, append_assoc, append-nil}
 use Rattle.std.proofs.Common.{⊎_elim}
 use Rattle.std.specs.List.{AllByRecursion}
@@ -8,7 +8,7 @@ use Rattle.std.proofs.lemmas.Bool.Decides.{nat_tests}
 use Rattle.std.proofs.lemmas.List.{length_push}
 use Rattle.std.proofs.lemmas.Slice.Eq.{bytes_eq-Decides}
 use Rattle.plat_grammar.specs.Lines.{Word, texts}
-use Rattle.plat_grammar.specs.Forms.{◌>>=◌, Row, word_at, word_from, first_word, refused, read_as, one, nothing, nothing_from, ◌·◌, made}
+use Rattle.plat_grammar.specs.Forms.{Row, word_at, word_from, first_word, refused, read_as, one, nothing, nothing_from, ◌·◌, made}
 use Rattle.plat_grammar.specs.Forms.{maybe, each, listed, chosen, choice}
 use Rattle.plat_base.specs.declared.faults.Refused.{Refused}
 use Rattle.plat_base.specs.declared.faults.Why.{Why}

@@ -1,11 +1,11 @@
 -- one step of each reading: what is left after a word and after a row
-use Rattle.std.proofs.Common.{◌≡◌, ℕ, suc, zero, ◌+◌, ◌<◌, ◌≤◌, Bool, true, false, cond, eqb, leb, List, [], ◌∷◌, ◌++◌, length, Option}
-use Rattle.std.proofs.Common.{Some, None, Result, Ok, Err, bytes_eq, refl, ap, sym, ◌∙◌, subst, ⊎_elim, arith}
+use Rattle.std.proofs.Common.{◌≡◌, ℕ, ◌<◌, ◌≤◌, Bool, true, false, eqb, leb, List, [], ◌∷◌, ◌++◌, length, Option}
+use Rattle.std.proofs.Common.{Some, None, Result, Ok, Err, bytes_eq, refl, ap, sym, ◌∙◌, ⊎_elim, arith}
 use Rattle.std.proofs.lemmas.Bool.{cases_Bool}
 use Rattle.std.proofs.lemmas.Bool.Decides.{nat_tests}
 use Rattle.plat_grammar.specs.Lines.{Word}
-use Rattle.plat_grammar.specs.Forms.{◌>>=◌, Row, Rest, Stop, word_at, word_from, row_at, row_from, read_as, refused, each, row_length}
-use Rattle.plat_grammar.specs.Forms.{opened, if_opened, once, repeated, exactly, key, word_ahead}
+use Rattle.plat_grammar.specs.Forms.{◌>>=◌, Row, Rest, word_at, word_from, row_at, row_from, read_as, refused, each}
+use Rattle.plat_grammar.specs.Forms.{opened, if_opened, once, repeated, key, word_ahead}
 use Rattle.plat_text.proofs.Results.{taking, ok_first, ok_second}
 use Rattle.plat_base.specs.declared.faults.Refused.{Refused}
 use Rattle.plat_base.specs.declared.faults.Why.{Why}
@@ -69,40 +69,40 @@ abbrev pub goes_on : {A : Type 0} → List ℕ → (A → A → Bool) → (Row �
     Result (List A × Rest) Refused
 goes_on word same read seen (None, rest) = Ok (seen, rest)
 goes_on word same read seen (Some row, after) =
-    once same seen read row >>= λ x. repeated word same read after.stop after.given (seen ++ x ∷ []) after.rows
+    once same seen read row >>= λ x. repeated word same read after.stop (seen ++ x ∷ []) after.rows
 
 module _ {A : Type 0} (word : List ℕ) (same : A → A → Bool) (read : Row → Result A Refused) (seen : List A) where
   one_row : (rest : Rest) (row : Row) (rows : List Row) (ws : List Word)
-      → repeated word same read rest.stop rest.given seen (record row { words = ws } ∷ rows)
+      → repeated word same read rest.stop seen (record row { words = ws } ∷ rows)
       ≡ (if_opened word (record rest { rows = record row { words = ws } ∷ rows }) >>= goes_on word same read seen)
   one_row rest row rows [] = refl
   one_row rest row rows (w ∷ ws) = ⊎_elim (λ e. rw e refl) (λ e. rw e refl) (cases_Bool (bytes_eq w.bytes word))
 
-  pub repeated-step : (rest : Rest) → repeated word same read rest.stop rest.given seen rest.rows
+  pub repeated-step : (rest : Rest) → repeated word same read rest.stop seen rest.rows
       ≡ (if_opened word rest >>= goes_on word same read seen)
   repeated-step rest = by_rows rest.rows where
-    by_rows : (rows : List Row) → repeated word same read rest.stop rest.given seen rows
+    by_rows : (rows : List Row) → repeated word same read rest.stop seen rows
         ≡ (if_opened word (record rest { rows = rows }) >>= goes_on word same read seen)
     by_rows [] = refl
     by_rows (row ∷ rows) = one_row rest row rows row.words
 
   pub repeated-more : (rest : Rest) (row : Row) (after : Rest) (x : A) → if_opened word rest ≡ Ok (Some row, after) →
       once same seen read row ≡ Ok x
-      → repeated word same read rest.stop rest.given seen rest.rows
-      ≡ repeated word same read after.stop after.given (seen ++ x ∷ []) after.rows
+      → repeated word same read rest.stop seen rest.rows
+      ≡ repeated word same read after.stop (seen ++ x ∷ []) after.rows
   repeated-more rest row after x o e = repeated-step rest ∙ (rw (o, e) refl)
 
   pub repeated-wrong : (rest : Rest) (row : Row) (after : Rest) (fault : Refused) → if_opened word rest ≡ Ok (Some row, after) →
       once same seen read row ≡ Err fault
-      → repeated word same read rest.stop rest.given seen rest.rows ≡ Err fault
+      → repeated word same read rest.stop seen rest.rows ≡ Err fault
   repeated-wrong rest row after fault o e = repeated-step rest ∙ (rw (o, e) refl)
 
   pub repeated-end : (rest after : Rest) → if_opened word rest ≡ Ok (None, after) →
-      repeated word same read rest.stop rest.given seen rest.rows ≡ Ok (seen, after)
+      repeated word same read rest.stop seen rest.rows ≡ Ok (seen, after)
   repeated-end rest after o = repeated-step rest ∙ (rw o refl)
 
   pub repeated-none : (rest : Rest) (fault : Refused) → if_opened word rest ≡ Err fault →
-      repeated word same read rest.stop rest.given seen rest.rows ≡ Err fault
+      repeated word same read rest.stop seen rest.rows ≡ Err fault
   repeated-none rest fault o = repeated-step rest ∙ (rw o refl)
 
 -- ---- a row is taken
@@ -110,7 +110,6 @@ module _ {A : Type 0} (word : List ℕ) (same : A → A → Bool) (read : Row �
 pub record TakesRow (rest : Rest) (row : Row) (after : Rest) : Type 0 where
   pub rows : rest.rows ≡ row ∷ after.rows
   pub stop : after.stop ≡ rest.stop
-  pub given : after.given ≡ rest.given + row_length row
 
 pub row_taken : (rest : Rest) (row : Row) (after : Rest) → row_at rest ≡ Ok (row, after) → TakesRow rest row after
 row_taken rest row after e = by_rows rest.rows e where
@@ -118,14 +117,12 @@ row_taken rest row after e = by_rows rest.rows e where
       TakesRow (record rest { rows = rows }) row after
   by_rows [] e = cc
   by_rows (r ∷ rows) e =
-      let same : ◌≡◌ {A = Row × Rest} (r, record rest { given = rest.given + row_length r; rows = rows }) (row, after) = cc in
+      let same : ◌≡◌ {A = Row × Rest} (r, record rest { rows = rows }) (row, after) = cc in
       let first : r ≡ row = ap (λ p. p.0) same in
-      let left : record rest { given = rest.given + row_length r; rows = rows } ≡ after = ap (λ p. p.1) same in
+      let left : record rest { rows = rows } ≡ after = ap (λ p. p.1) same in
       record {
         rows = rw first (ap (λ a. row ∷ a.rows) left);
         stop = sym (ap (λ a. a.stop) left);
-        given = sym (ap (λ a. a.given) left)
-            ∙ ap (λ p. rest.given + row_length p) first;
       }
 
 pub opened_fewer : (word : List ℕ) (rest : Rest) (row : Row) (after : Rest) → opened word rest ≡ Ok (row, after) →

@@ -1,7 +1,6 @@
 pub mod LineLemmas
 pub mod NumberLemmas
 pub mod SizeLemmas
-pub mod RowLemmas
 pub mod FormLemmas
 pub mod Results
 pub mod WordLaws

@@ -1,16 +1,15 @@
 -- how lines and words come off the front of bytes
-use Rattle.std.proofs.Common.{eqb, ◌-◌, length-drop, get_or-drop, add-zero, one-add, add_assoc, length-take, length-take-le, ◌≡◌, ℕ, suc}
-use Rattle.std.proofs.Common.{zero, ◌+◌, ◌<◌, ◌≤◌, Bool, true, false, not, cond, List, [], ◌∷◌, length, take, drop, Option, Some, None}
-use Rattle.std.proofs.Common.{get_or, refl, ap, sym, ◌∙◌, subst, arith, inl, inr}
-use Rattle.std.specs.List.{slice_split, onto_first, position, position_or_len, prefix_len, filter, before_first, after_first}
+use Rattle.std.proofs.Common.{eqb, ◌-◌, length-drop, get_or-drop, add-zero, one-add, length-take-le, ◌≡◌, ℕ, suc}
+use Rattle.std.proofs.Common.{zero, ◌+◌, ◌<◌, ◌≤◌, Bool, true, false, not, cond, List, [], ◌∷◌, length, take, drop, Some, None}
+use Rattle.std.proofs.Common.{get_or, refl, ap, sym, ◌∙◌, arith}
+use Rattle.std.specs.List.{slice_split, onto_first, position, position_or_len, filter}
 use Rattle.std.proofs.lemmas.Bool.Decides.{nat_tests}
 use Rattle.std.proofs.Math.Nat.{le_refl}
 use Rattle.std.proofs.lemmas.Bool.{false≢true, not-true}
 use Rattle.std.proofs.lemmas.List.{drop_all, take_rest}
 use Rattle.std.proofs.lemmas.List.Quantifiers.{position-Some}
 use Rattle.std.proofs.lemmas.List.Splits.{slice_split_first, length-slice_split}
-use Rattle.plat_grammar.specs.Lines.{LineText, Word, is_feed, is_space, is_hash, is_empty, numbered, lines_of, placed, has_bytes, words_at}
-use Rattle.plat_grammar.specs.Lines.{uncommented}
+use Rattle.plat_grammar.specs.Lines.{is_feed, is_space, numbered, lines_of, placed, has_bytes, words_at}
 
 -- ---- the place of the first element that passes
 

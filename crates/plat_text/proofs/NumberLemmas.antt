@@ -1,6 +1,6 @@
 -- numbers and their one spelling
 use Rattle.std.proofs.Common.{◌≡◌, ℕ, suc, zero, ◌+◌, ◌*◌, ◌^◌, ◌<◌, ◌≤◌, Bool, true, false, not, ◌&&◌, ◌||◌, cond, eqb, ltb, List, [], ◌∷◌}
-use Rattle.std.proofs.Common.{length, drop, get_or, Result, Ok, Err, ◌⊎◌, inl, inr, ⊎_elim, refl, ap, sym, ◌∙◌, arith, rules}
+use Rattle.std.proofs.Common.{length, drop, get_or, Ok, Err, ◌⊎◌, inl, inr, ⊎_elim, refl, ap, sym, ◌∙◌, arith, rules}
 use Rattle.std.specs.List.{list_all}
 use Rattle.std.specs.Char.{is_ascii_digit, digit_value}
 use Rattle.std.specs.Str.Parse.{digits_value, digits_value_after}
@@ -8,13 +8,11 @@ use Rattle.std.specs.Fmt.{decimal}
 use Rattle.std.proofs.lemmas.Str.Parse.{IsNumeralModel, numerals_by_value}
 use Rattle.std.proofs.lemmas.Fmt.{decimal-digits_value, digits_decimal, digits_value-decimal, first_decimal, decimal_nonempty}
 use Rattle.std.proofs.lemmas.Fmt.{decimal_digit}
-use Rattle.std.proofs.Math.Nat.{le_trans}
 use Rattle.std.proofs.lemmas.Bool.{and_parts, and_from, ltb-true}
 use Rattle.plat_text.proofs.Results.{ok_is}
 use Rattle.std.proofs.lemmas.Bool.Decides.{nat_tests}
 use Rattle.std.proofs.lemmas.List.{at_drop_more, at_drop_all}
 use Rattle.plat_grammar.specs.Lines.{is_spelling, number_of}
-use Rattle.plat_base.specs.declared.faults.Why.{Why}
 use Rattle.plat_base.specs.declared.faults.Why.TheVariants.{NotNumber, TooLarge}
 
 -- ---- reading digit by digit

@@ -1,15 +1,15 @@
 -- lines with one first word, no two of them the same: what is read is spelled so, and what is spelled so is read
-use Rattle.std.proofs.Common.{◌≡◌, ℕ, ◌+◌, Bool, true, false, not, ◌&&◌, ◌||◌, cond, List, [], ◌∷◌, ◌++◌, map, Result, Ok, Err, bytes_eq}
+use Rattle.std.proofs.Common.{◌≡◌, ℕ, Bool, true, false, not, List, [], ◌∷◌, ◌++◌, map, Result, Ok, bytes_eq}
 use Rattle.std.proofs.Common.{refl, ap, sym, ◌∙◌, subst, append_assoc, append-nil, ⊎_elim}
 use Rattle.std.specs.List.{AllByRecursion, list_any}
-use Rattle.std.proofs.lemmas.Bool.{cases_Bool, and_parts, and_from, or_parts, not-true, not_from_false}
+use Rattle.std.proofs.lemmas.Bool.{cases_Bool, and_parts, and_from, or_parts, not-true}
 use Rattle.std.proofs.lemmas.Slice.Eq.{bytes_eq-Decides}
 use Rattle.plat_grammar.specs.Lines.{Word, texts}
 use Rattle.plat_base.specs.Machine.{all_differ}
-use Rattle.plat_grammar.specs.Forms.{◌>>=◌, Row, Rest, Stop, word_at, first_word, once, repeated, all_with, refused, row_length}
+use Rattle.plat_grammar.specs.Forms.{Row, Rest, Stop, word_at, first_word, once, repeated, all_with, refused}
 use Rattle.plat_base.specs.declared.faults.Refused.{Refused}
 use Rattle.plat_base.specs.declared.faults.Why.TheVariants.{Duplicate}
-use Rattle.plat_text.proofs.Results.{taking, then_ok, ok_is, ok_first, ok_second, stopped}
+use Rattle.plat_text.proofs.Results.{taking, then_ok, ok_first, ok_second, stopped}
 use Rattle.plat_text.proofs.FormLemmas.{word_taken}
 use Rattle.plat_text.proofs.FormLaws.{row_texts, IsTail, word_there, texts_taken}
 use Rattle.plat_text.proofs.SectionLaws.{row_lists, rest_lists, Took, took_none, took_then, took_row, IsSection}
@@ -70,23 +70,23 @@ module _ {A : Type 0} (word : List ℕ) (same : A → A → Bool) (symmetric : (
   abbrev with_word : List A → List (List (List ℕ))
   with_word xs = map (λ x. word ∷ spell x) xs
 
-  abbrev here : Stop → ℕ → List Row → Rest
-  here stop given rows = record { given = given; rows = rows; stop = stop }
+  abbrev here : Stop → List Row → Rest
+  here stop rows = record { rows = rows; stop = stop }
 
-  repeated-takes : (stop : Stop) (given : ℕ) (seen : List A) (rows : List Row) (xs : List A) (after : Rest) →
-      repeated word same read stop given seen rows ≡ Ok (xs, after)
-      → (new : List A) × (xs ≡ seen ++ new) × Took (here stop given rows) after (with_word new) × AllByRecursion fits new
+  repeated-takes : (stop : Stop) (seen : List A) (rows : List Row) (xs : List A) (after : Rest) →
+      repeated word same read stop seen rows ≡ Ok (xs, after)
+      → (new : List A) × (xs ≡ seen ++ new) × Took (here stop rows) after (with_word new) × AllByRecursion fits new
       × (all_differ same seen ≡ true → all_differ same xs ≡ true)
-  repeated-takes stop given seen [] xs after e = cc
-  repeated-takes stop given seen (row ∷ rows) xs after e = taking (word_at row) _ _ e (λ w w-is e1. ⊎_elim
+  repeated-takes stop seen [] xs after e = cc
+  repeated-takes stop seen (row ∷ rows) xs after e = taking (word_at row) _ _ e (λ w w-is e1. ⊎_elim
       (λ t. taking (once same seen read w.1) _ _ (rw t at e1) (λ x x-is e2.
       let one = once-takes same law seen w.1 x x-is in
-      let u = repeated-takes stop (given + row_length row) (seen ++ x ∷ []) rows xs after e2 in
+      let u = repeated-takes stop (seen ++ x ∷ []) rows xs after e2 in
       let spelled : row_texts row ≡ word ∷ spell x = texts_taken row w.0 w.1 (word_taken row w.0 w.1 w-is)
       ∙ rw ((bytes_eq-Decides w.0.bytes word).0 t, one.0) refl in
-      let first : Took (here stop given (row ∷ rows)) (here stop (given + row_length row) rows) ((word ∷ spell x) ∷ []) =
-      rw (← spelled) (took_row (here stop given (row ∷ rows)) row (here stop (given + row_length row) rows)
-      (record { rows = refl; stop = refl; given = refl })) in (
+      let first : Took (here stop (row ∷ rows)) (here stop rows) ((word ∷ spell x) ∷ []) =
+      rw (← spelled) (took_row (here stop (row ∷ rows)) row (here stop rows)
+      (record { rows = refl; stop = refl })) in (
         x ∷ u.0,
         u.1 ∙ append_assoc seen (x ∷ []) u.0,
         took_then _ _ _ ((word ∷ spell x) ∷ []) (with_word u.0) first u.2,
@@ -94,32 +94,32 @@ module _ {A : Type 0} (word : List ℕ) (same : A → A → Bool) (symmetric : (
         λ d. u.4 (differ-push same symmetric seen x d one.2),
       )))
       (λ t.
-      let e2 : ◌≡◌ {A = Result (List A × Rest) Refused} (Ok (seen, here stop given (row ∷ rows))) (Ok (xs, after)) = rw t at e1 in
-      let all : seen ≡ xs = ok_first (seen, here stop given (row ∷ rows)) (xs, after) e2 in
-      let left : here stop given (row ∷ rows) ≡ after = ok_second (seen, here stop given (row ∷ rows)) (xs, after) e2 in
-      ([], sym all ∙ sym (append-nil seen), rw (← left) (took_none (here stop given (row ∷ rows))), tt, λ d. rw (← all) d))
+      let e2 : ◌≡◌ {A = Result (List A × Rest) Refused} (Ok (seen, here stop (row ∷ rows))) (Ok (xs, after)) = rw t at e1 in
+      let all : seen ≡ xs = ok_first (seen, here stop (row ∷ rows)) (xs, after) e2 in
+      let left : here stop (row ∷ rows) ≡ after = ok_second (seen, here stop (row ∷ rows)) (xs, after) e2 in
+      ([], sym all ∙ sym (append-nil seen), rw (← left) (took_none (here stop (row ∷ rows))), tt, λ d. rw (← all) d))
       (cases_Bool (bytes_eq w.0.bytes word)))
 
-  repeated-again : (nonempty : (x : A) → (b : List ℕ) × (more : List (List ℕ)) × (spell x ≡ b ∷ more)) (stop : Stop) (given : ℕ)
+  repeated-again : (nonempty : (x : A) → (b : List ℕ) × (more : List (List ℕ)) × (spell x ≡ b ∷ more)) (stop : Stop)
       (seen new : List A) (rows : List Row) (more : List (List (List ℕ)))
       → AllByRecursion fits new → all_differ same (seen ++ new) ≡ true → Stops word more → row_lists rows ≡ with_word new ++ more
-      → (after : Rest) × (repeated word same read stop given seen rows ≡ Ok (seen ++ new, after)) × (rest_lists after ≡ more)
-  repeated-again nonempty stop given seen [] [] more h d s e = absurd (subst (Stops word) (sym e) s)
-  repeated-again nonempty stop given seen [] (row ∷ rows) more h d s e = by_words row.words (subst (Stops word) (sym e) s) e where
+      → (after : Rest) × (repeated word same read stop seen rows ≡ Ok (seen ++ new, after)) × (rest_lists after ≡ more)
+  repeated-again nonempty stop seen [] [] more h d s e = absurd (subst (Stops word) (sym e) s)
+  repeated-again nonempty stop seen [] (row ∷ rows) more h d s e = by_words row.words (subst (Stops word) (sym e) s) e where
     by_words : (ws : List Word) → Stops word (texts ws ∷ row_lists rows) → texts ws ∷ row_lists rows ≡ more
-        → (after : Rest) × (repeated word same read stop given seen (record row { words = ws } ∷ rows) ≡ Ok (seen ++ [], after))
+        → (after : Rest) × (repeated word same read stop seen (record row { words = ws } ∷ rows) ≡ Ok (seen ++ [], after))
         × (rest_lists after ≡ more)
     by_words [] s e = absurd s
-    by_words (w ∷ ws) s e = (here stop given (record row { words = w ∷ ws } ∷ rows), rw (s, append-nil) refl, e)
-  repeated-again nonempty stop given seen (x ∷ xs) [] more h d s e = absurd cc
-  repeated-again nonempty stop given seen (x ∷ xs) (row ∷ rows) more h d s e =
+    by_words (w ∷ ws) s e = (here stop (record row { words = w ∷ ws } ∷ rows), rw (s, append-nil) refl, e)
+  repeated-again nonempty stop seen (x ∷ xs) [] more h d s e = absurd cc
+  repeated-again nonempty stop seen (x ∷ xs) (row ∷ rows) more h d s e =
       let first : row_texts row ≡ word ∷ spell x = cc in
       let others : row_lists rows ≡ with_word xs ++ more = cc in
       let t = word_there row word (spell x) first in
       let apart = differ-at same symmetric seen x xs d in
       let n = nonempty x in
       let o = once-again same law seen t.1 x n.0 n.1 h.0 n.2 apart t.4 in
-      let u = repeated-again nonempty stop (given + row_length row) (seen ++ x ∷ []) xs rows more h.1 (rw append_assoc d) s others in
+      let u = repeated-again nonempty stop (seen ++ x ∷ []) xs rows more h.1 (rw append_assoc d) s others in
       let yes : bytes_eq t.0.bytes word ≡ true = (bytes_eq-Decides t.0.bytes word).1 t.3 in (
         u.0,
         then_ok (word_at row) _ (t.0, t.1) _ t.2
@@ -131,9 +131,9 @@ module _ {A : Type 0} (word : List ℕ) (same : A → A → Bool) (symmetric : (
       → IsSection (all_with word same read) (λ xs. xs) with_word (λ xs. AllByRecursion fits xs × (all_differ same xs ≡ true)) (Stops word)
   repeated-law nonempty = record {
     takes = λ rest xs after e.
-        let t = repeated-takes rest.stop rest.given [] rest.rows xs after e in
+        let t = repeated-takes rest.stop [] rest.rows xs after e in
         (rw t.1 t.2, (rw t.1 t.3, t.4 refl));
     again = λ rest xs more h s e.
-        let t = repeated-again nonempty rest.stop rest.given [] xs rest.rows more h.0 h.1 s e in
+        let t = repeated-again nonempty rest.stop [] xs rest.rows more h.0 h.1 s e in
         (xs, t.0, t.1, refl, t.2);
   }

@@ -1,5 +1,5 @@
 -- chains of steps that may fail
-use Rattle.std.proofs.Common.{◌≡◌, Bool, true, false, cond, Result, Ok, Err, refl, ap, sym, ◌∙◌, ◌⊎◌, inl, inr}
+use Rattle.std.proofs.Common.{◌≡◌, Bool, true, false, cond, Result, Ok, Err, refl, ap, ◌∙◌, ◌⊎◌, inl, inr}
 use Rattle.plat_grammar.specs.Forms.{◌>>=◌}
 
 module _ {A B E : Type 0} where

@@ -1,20 +1,12 @@
 -- sections of a text: what is read of rows is spelled so, and what is spelled so is read
-use Rattle.std.proofs.Common.{◌≡◌, ℕ, suc, zero, ◌+◌, ◌<◌, ◌≤◌, Bool, true, false, not, ◌&&◌, ◌||◌, cond, List, [], ◌∷◌, ◌++◌, length, map}
-use Rattle.std.proofs.Common.{Option, Some, None, Result, Ok, Err, bytes_eq, refl, ap, sym, ◌∙◌, subst, arith, append_assoc, ⊎_elim}
-use Rattle.std.specs.List.{AllByRecursion, list_any}
-use Rattle.std.proofs.lemmas.Bool.{cases_Bool, and_parts, and_from, or_parts, or_from, not-true, not_from_false}
-use Rattle.std.proofs.lemmas.List.{append-nil}
-use Rattle.std.proofs.lemmas.Slice.Eq.{bytes_eq-Decides}
-use Rattle.plat_grammar.specs.Lines.{Word, texts}
-use Rattle.plat_base.specs.Machine.{all_differ}
-use Rattle.plat_grammar.specs.Forms.{◌>>=◌, Row, Rest, Stop, word_at, first_word, row_at, key, opened, line_at, once, repeated, all_with}
-use Rattle.plat_grammar.specs.Forms.{refused, row_length, spelled_size}
+use Rattle.std.proofs.Common.{◌≡◌, ℕ, List, [], ◌∷◌, ◌++◌, map}
+use Rattle.std.proofs.Common.{Result, Ok, refl, ap, sym, ◌∙◌, append_assoc}
+use Rattle.plat_grammar.specs.Forms.{Row, Rest, row_at, key, opened, line_at}
 use Rattle.plat_base.specs.declared.faults.Refused.{Refused}
-use Rattle.plat_base.specs.declared.faults.Why.TheVariants.{Duplicate}
-use Rattle.plat_text.proofs.Results.{taking, then_ok, ok_is, ok_first, ok_second, stopped}
-use Rattle.plat_text.proofs.FormLemmas.{TakesWord, word_taken, TakesRow, row_taken}
+use Rattle.plat_text.proofs.Results.{taking, then_ok, ok_first, ok_second}
+use Rattle.plat_text.proofs.FormLemmas.{TakesRow, row_taken}
 use Rattle.plat_text.proofs.WordLaws.{exactly-law}
-use Rattle.plat_text.proofs.FormLaws.{row_texts, IsTail, one-law, word_there, texts_taken}
+use Rattle.plat_text.proofs.FormLaws.{row_texts, IsTail, one-law}
 
 -- the word lists of rows
 abbrev pub row_lists : List Row → List (List (List ℕ))
@@ -23,40 +15,25 @@ row_lists rows = map row_texts rows
 abbrev pub rest_lists : Rest → List (List (List ℕ))
 rest_lists rest = row_lists rest.rows
 
--- the bytes of words and of lines, one more after each word
-abbrev pub list_size : List (List ℕ) → ℕ
-list_size [] = 0
-list_size (w ∷ ws) = length w + 1 + list_size ws
-
-abbrev pub lists_size : List (List (List ℕ)) → ℕ
-lists_size [] = 0
-lists_size (l ∷ ls) = list_size l + lists_size ls
-
 -- rows with these word lists were taken
 pub record Took (rest after : Rest) (lines : List (List (List ℕ))) : Type 0 where
   pub taken : List Row
   pub rows : rest.rows ≡ taken ++ after.rows
   pub stop : after.stop ≡ rest.stop
-  pub given : after.given ≡ rest.given + lists_size lines
   pub lists : row_lists taken ≡ lines
-
-pub lists_size-append : (ls ms : List (List (List ℕ))) → lists_size (ls ++ ms) ≡ lists_size ls + lists_size ms
-lists_size-append [] ms = omega arith
-lists_size-append (l ∷ ls) ms = omega (arith, lists_size-append ls ms)
 
 pub row_lists-append : (rs ss : List Row) → row_lists (rs ++ ss) ≡ row_lists rs ++ row_lists ss
 row_lists-append [] ss = refl
 row_lists-append (r ∷ rs) ss = ap (λ k. row_texts r ∷ k) (row_lists-append rs ss)
 
 pub took_none : (rest : Rest) → Took rest rest []
-took_none rest = record { taken = []; rows = refl; stop = refl; given = omega arith; lists = refl }
+took_none rest = record { taken = []; rows = refl; stop = refl; lists = refl }
 
 pub took_then : (a b c : Rest) (ls ms : List (List (List ℕ))) → Took a b ls → Took b c ms → Took a c (ls ++ ms)
 took_then a b c ls ms t u = record {
   taken = t.taken ++ u.taken;
   rows = t.rows ∙ ap (λ k. t.taken ++ k) u.rows ∙ sym (append_assoc t.taken u.taken c.rows);
   stop = u.stop ∙ t.stop;
-  given = omega (arith, t.given, u.given, lists_size-append ls ms);
   lists = row_lists-append t.taken u.taken ∙ rw (t.lists, u.lists) refl;
 }
 
@@ -72,16 +49,11 @@ pub record IsSection {A B : Type 0} (read : Rest → Result (A × Rest) Refused)
 
 -- ---- one row
 
-pub spelled-size : (ws : List Word) → spelled_size ws ≡ list_size (texts ws)
-spelled-size [] = refl
-spelled-size (w ∷ ws) = ap (λ k. length w.bytes + 1 + k) (spelled-size ws)
-
 pub took_row : (rest : Rest) (row : Row) (after : Rest) → TakesRow rest row after → Took rest after (row_texts row ∷ [])
 took_row rest row after t = record {
   taken = row ∷ [];
   rows = t.rows;
   stop = t.stop;
-  given = omega (arith, t.given, spelled-size row.words);
   lists = refl;
 }
 
@@ -92,7 +64,7 @@ row_there rest line more e = by_rows rest.rows e where
       → (row : Row) × (after : Rest) × (row_at (record rest { rows = rows }) ≡ Ok (row, after)) × (row_texts row ≡ line)
       × (rest_lists after ≡ more)
   by_rows [] e = absurd cc
-  by_rows (row ∷ rows) e = (row, record rest { given = rest.given + row_length row; rows = rows }, refl, cc, cc)
+  by_rows (row ∷ rows) e = (row, record rest { rows = rows }, refl, cc, cc)
 
 module _ (word : List ℕ) where
   key-takes : (row : Row) (after : Row) (u : Unit {0}) → key word row ≡ Ok (u, after) → row_texts row ≡ word ∷ row_texts after

@@ -1,15 +1,8 @@
--- how many bytes lines, words and rows have
-use Rattle.std.proofs.Common.{◌≡◌, ℕ, suc, zero, ◌+◌, ◌-◌, ◌<◌, ◌≤◌, Bool, true, false, not, cond, eqb, List, [], ◌∷◌, length, take, drop}
-use Rattle.std.proofs.Common.{refl, ap, sym, ◌∙◌, arith, length-take}
-use Rattle.std.specs.List.{slice_split, onto_first, sum_by, filter, before_first, position_or_len, count_by}
-use Rattle.std.proofs.lemmas.Bool.Decides.{nat_tests}
+-- how many bytes the words of a line have, one more after each
+use Rattle.std.proofs.Common.{◌≡◌, ℕ, suc, ◌+◌, ◌<◌, ◌≤◌, Bool, true, false, cond, List, [], ◌∷◌, length, refl, ap, arith, length-take}
+use Rattle.std.specs.List.{slice_split, onto_first, filter, position_or_len}
 use Rattle.std.proofs.lemmas.List.Splits.{length-slice_split}
-use Rattle.plat_grammar.specs.Lines.{LineText, Word, is_feed, is_space, is_hash, is_empty, numbered, lines_of, placed, has_bytes, words_at}
-use Rattle.plat_grammar.specs.Lines.{words_of, uncommented}
-use Rattle.plat_grammar.specs.Forms.{Row, row_length, spelled_size}
-use Rattle.plat_text.specs.Sizes.{lines_size}
-use Rattle.plat_text.specs.Shown.{row_for}
-use Rattle.plat_text.specs.declared.feeds.Line.{Line}
+use Rattle.plat_grammar.specs.Lines.{Word, is_space, is_hash, placed, has_bytes, words_at, words_of, uncommented, texts}
 
 -- the bytes of parts, each with one more
 abbrev pub parts_size : List (List ℕ) → ℕ
@@ -28,19 +21,19 @@ split-size p (x ∷ xs) = elim (p x) as (λ v. parts_size (cond v ([] ∷ slice_
       | false ↦ omega (arith, onto_first-size x (slice_split p xs) (omega (arith, length-slice_split p xs)), split-size p xs)
     ]
 
-placed-size : (c : ℕ) (ps : List (List ℕ)) → spelled_size (placed c ps) ≡ parts_size ps
+placed-size : (c : ℕ) (ps : List (List ℕ)) → parts_size (texts (placed c ps)) ≡ parts_size ps
 placed-size c [] = refl
 placed-size c (p ∷ ps) = ap (λ k. length p + 1 + k) (placed-size (c + length p + 1) ps)
 
-filter-size : (ws : List Word) → spelled_size (filter has_bytes ws) ≤ spelled_size ws
+filter-size : (ws : List Word) → parts_size (texts (filter has_bytes ws)) ≤ parts_size (texts ws)
 filter-size [] = omega arith
 filter-size (w ∷ ws) = elim (has_bytes w) as
-    (λ v. spelled_size (cond v (w ∷ filter has_bytes ws) (filter has_bytes ws)) ≤ spelled_size (w ∷ ws)) [
+    (λ v. parts_size (texts (cond v (w ∷ filter has_bytes ws) (filter has_bytes ws))) ≤ parts_size (texts (w ∷ ws))) [
       | true ↦ omega (arith, filter-size ws)
       | false ↦ omega (arith, filter-size ws)
     ]
 
-words_at-size : (c : ℕ) (bytes : List ℕ) → spelled_size (words_at c bytes) ≤ length bytes + 1
+words_at-size : (c : ℕ) (bytes : List ℕ) → parts_size (texts (words_at c bytes)) ≤ length bytes + 1
 unfolding words_at
 words_at-size c bytes = omega (
   arith,
@@ -49,19 +42,5 @@ words_at-size c bytes = omega (
   split-size is_space bytes,
 )
 
-pub words_of-size : (line : List ℕ) → spelled_size (words_of line) ≤ length line + 1
+pub words_of-size : (line : List ℕ) → parts_size (texts (words_of line)) ≤ length line + 1
 words_of-size line = omega (arith, words_at-size 1 (uncommented line), length-take (position_or_len is_hash line) line)
-
-numbered-size : (n : ℕ) (ps : List (List ℕ)) → lines_size (numbered n ps) ≤ parts_size ps
-numbered-size n [] = omega arith
-numbered-size n (p ∷ []) = one (is_empty p) where
-  one : (v : Bool) → lines_size (cond v [] (record { number = n; bytes = p; ended = false } ∷ [])) ≤ length p + 1 + 0
-  one true = omega arith
-  one false = omega arith
-numbered-size n (p ∷ q ∷ ps) = omega (arith, numbered-size (n + 1) (q ∷ ps))
-
-pub lines_of-size : (n : ℕ) (bytes : List ℕ) → lines_size (lines_of n bytes) ≤ length bytes + 1
-unfolding lines_of
-lines_of-size n bytes = omega (arith, numbered-size n (slice_split is_feed bytes), split-size is_feed bytes)
-
-pub ruleset sizes = (words_of-size, lines_of-size)

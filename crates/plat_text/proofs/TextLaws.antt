@@ -1,16 +1,16 @@
 -- the rows of clean lines are their word lists, and there are no others
-use Rattle.std.proofs.Common.{◌≡◌, ℕ, suc, zero, ◌+◌, ◌<◌, ◌≤◌, Bool, true, false, not, ◌||◌, cond, eqb, ltb, List, [], ◌∷◌, ◌++◌, length}
-use Rattle.std.proofs.Common.{map, Option, Some, None, Result, Ok, Err, refl, ap, sym, ◌∙◌, subst, arith, ⊎_elim}
-use Rattle.std.specs.List.{AllByRecursion, position, position_or_len, filter}
-use Rattle.std.proofs.lemmas.Bool.{cases_Bool, not-true, false≢true, or_parts, or_from, or_cases, ltb-true, ltb-false, le-ltb, lt-ltb}
+use Rattle.std.proofs.Common.{◌≡◌, ℕ, suc, ◌+◌, ◌≤◌, Bool, true, false, not, cond, eqb, ltb, List, [], ◌∷◌, ◌++◌, length}
+use Rattle.std.proofs.Common.{Option, Some, None, Result, Ok, Err, refl, ap, sym, ◌∙◌, subst, arith}
+use Rattle.std.specs.List.{AllByRecursion, position, position_or_len}
+use Rattle.std.proofs.lemmas.Bool.{not-true, or_parts, or_from, ltb-false, le-ltb}
 use Rattle.std.proofs.lemmas.Bool.Decides.{nat_tests}
 use Rattle.plat_grammar.specs.Lines.{LineText, Word, uncommented, words_of, texts}
 use Rattle.plat_grammar.specs.Forms.{◌>>=◌, Row, Rest, Stop, finished, broken, refused, is_bad, row_of, no_bad_byte, with_line, rest_of}
 use Rattle.plat_grammar.specs.Forms.{word_at, over, over_from}
 use Rattle.plat_grammar.specs.Grammar.{IsClean, line_words, has_words, word_lists}
 use Rattle.plat_base.specs.declared.faults.Refused.{Refused}
-use Rattle.plat_base.specs.declared.faults.Why.TheVariants.{Unended, BadByte, Extra}
-use Rattle.plat_text.proofs.Results.{taking, then_ok, ok_is}
+use Rattle.plat_base.specs.declared.faults.Why.TheVariants.{Unended, Extra}
+use Rattle.plat_text.proofs.Results.{taking, ok_is}
 use Rattle.plat_text.proofs.LineLemmas.{position_none}
 use Rattle.plat_text.proofs.FormLaws.{row_texts}
 use Rattle.plat_text.proofs.SectionLaws.{row_lists, rest_lists}

@@ -1,15 +1,15 @@
 -- readings of one word: what is read is spelled so, and what is spelled so is read
-use Rattle.std.proofs.Common.{◌≡◌, ℕ, ◌+◌, ◌^◌, ◌<◌, ◌≤◌, Bool, true, false, cond, ltb, leb, List, [], ◌∷◌, Result, Ok, Err, bytes_eq, refl}
+use Rattle.std.proofs.Common.{◌≡◌, ℕ, ◌^◌, ◌<◌, ◌≤◌, true, ltb, leb, List, Result, Ok, bytes_eq, refl}
 use Rattle.std.proofs.Common.{ap, sym, ◌∙◌, arith}
 use Rattle.std.specs.Fmt.{decimal}
 use Rattle.std.proofs.lemmas.Bool.{and_parts, and_from, ltb-true, leb-true, lt-ltb, le-leb}
 use Rattle.std.proofs.lemmas.Slice.Eq.{bytes_eq-Decides}
 use Rattle.plat_grammar.specs.Lines.{number_of}
 use Rattle.plat_base.specs.Machine.{is_within}
-use Rattle.plat_grammar.specs.Forms.{◌>>=◌, exactly, within, number_in, under, number_below}
+use Rattle.plat_grammar.specs.Forms.{exactly, within, number_in, under, number_below}
 use Rattle.plat_base.specs.declared.faults.Why.{Why}
 use Rattle.plat_base.specs.declared.faults.Why.TheVariants.{Expected, OutOfRange}
-use Rattle.plat_text.proofs.Results.{taking, then_ok, let_through, ok_is}
+use Rattle.plat_text.proofs.Results.{taking, then_ok, let_through}
 use Rattle.plat_text.proofs.NumberLemmas.{number_of-takes, number_of-again}
 
 -- the function reads just the spellings of values that fit, each as its value

@@ -2,8 +2,7 @@
 ghost use Rattle.std.specs.Prelude.{◌≡◌, ◌+◌, ◌≤◌, ◌<◌, ◌^◌, ◌==◌, ℕ, length, position};
 ghost use Rattle.plat_grammar.specs.Lines.{words_of, uncommented};
 ghost use Rattle.plat_grammar.specs.Forms.{Reads, is_bad, row_of, rest_of};
-ghost use Rattle.plat_text.specs.Shown.{line_text, row_for, with_ahead, ahead_size};
-ghost use Rattle.plat_text.specs.Sizes.{lines_size};
+ghost use Rattle.plat_text.specs.Shown.{line_text, row_for, with_ahead};
 
 use crate::cuts::{before_comment, words};
 use crate::feeds::{Line, Lines};
@@ -47,9 +46,7 @@ fn checked(line: Line<'_>) -> Result<(), Refused>
 
 /// Passes over lines without words.
 pub fn scan<'a>(lines: &mut Lines<'a>, next: u32) -> (Ahead<'a>, u32)
-    ensures rows { (given : ℕ) → with_ahead given result.0 (rest_of result.1 lines.new)
-        ≡ record (rest_of next lines.old) { given = given } }
-    ensures size { ahead_size result.0 + lines_size lines.new ≤ lines_size lines.old }
+    ensures { with_ahead result.0 (rest_of result.1 lines.new) ≡ rest_of next lines.old }
 {
     let mut next = next;
     while let Some(line) = lines.next() {

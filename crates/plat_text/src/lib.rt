@@ -8,8 +8,6 @@ mod feeds;
 mod fields;
 mod numbers;
 mod readers;
-#[cfg(test)]
-mod tests;
 mod tokens;
 
 pub use cuts::{lines, words};

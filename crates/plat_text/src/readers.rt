@@ -1,13 +1,11 @@
 //! Texts read row by row, a row being a line that has words.
 ghost use Rattle.std.specs.Prelude.{◌≡◌, ◌+◌, ◌<◌, ◌≤◌, ◌^◌, Ok, length};
-ghost use Rattle.plat_grammar.specs.Forms.{Reads, spelled_size, first_row, word_ahead, row_at, word_at, opened, if_opened, over};
-ghost use Rattle.plat_grammar.specs.Forms.{row_length, rest_of};
-ghost use Rattle.plat_grammar.specs.Lines.{words_of};
+ghost use Rattle.plat_grammar.specs.Forms.{Reads, first_row, word_ahead, row_at, word_at, opened, if_opened, over};
+ghost use Rattle.plat_grammar.specs.Forms.{rest_of};
 ghost use Rattle.plat_grammar.specs.Forms.{rows_of};
 ghost use Rattle.plat_text.specs.Shown.{word};
 
 use crate::ahead::{Ahead, scan};
-use crate::cuts::words;
 use crate::feeds::Lines;
 use crate::fields::Row;
 use crate::tokens::Token;
@@ -18,42 +16,22 @@ use std::marker::Model;
 /// nothing more is read of it.
 #[derive(Debug, Drop)]
 pub struct Rows<'a> {
-    given: u64,
     ahead: Ahead<'a>,
     next: u32,
     lines: Lines<'a>,
 }
 
 impl<'a> Model for Rows<'a> {
-    ghost use Rattle.std.specs.Prelude.{◌+◌, ◌<◌, ◌^◌};
     ghost use Rattle.plat_grammar.specs.Forms.{Rest, rest_of};
-    ghost use Rattle.plat_text.specs.Shown.{with_ahead, ahead_size};
-    ghost use Rattle.plat_text.specs.Sizes.{lines_size};
+    ghost use Rattle.plat_text.specs.Shown.{with_ahead};
 
     ghost Value = { Rest };
 
-    ghost view = { λ s. with_ahead s.given s.ahead (rest_of s.next s.lines) };
-
-    ghost invariant = { λ s. s.given + (ahead_size s.ahead + lines_size s.lines) < 2 ^ 33 };
-}
-
-/// The bytes of a line's words, with one after each.
-#[tactic(auto, using(crate::proofs::SizeLemmas::sizes))]
-fn spelled_len(line: &[u8]) -> u64
-    requires { length line.now < 4294967295 }
-    ensures value { result ≡ spelled_size (words_of line.now) }
-    ensures bound { result ≤ length line.now + 1 }
-{
-    let mut total = 0;
-    for found in words(line) {
-        total += found.bytes.len() as u64 + 1;
-    }
-    total
+    ghost view = { λ s. with_ahead s.ahead (rest_of s.next s.lines) };
 }
 
 impl<'a> Rows<'a> {
     /// The rows of `bytes`, where the first line has number `first`.
-    #[tactic(auto, using(crate::proofs::SizeLemmas::sizes))]
     pub fn new(first: u32, bytes: &'a [u8]) -> Rows<'a>
         requires counts { first + length bytes.now < 2 ^ 32 }
         requires fits { length bytes.now + 1 < 2 ^ 32 }
@@ -61,20 +39,7 @@ impl<'a> Rows<'a> {
     {
         let mut lines = Lines::new(first, bytes);
         let (ahead, next) = scan(&mut lines, first);
-        Rows {
-            given: 0,
-            ahead,
-            next,
-            lines,
-        }
-    }
-
-    /// How many bytes the rows that were taken have as lines of a canonical text.
-    pub fn given(&self) -> u64
-        ensures value { result ≡ self.now.given }
-        ensures bound { result < 2 ^ 33 }
-    {
-        self.given
+        Rows { ahead, next, lines }
     }
 
     /// The next row, which stays to be read.
@@ -99,7 +64,6 @@ impl<'a> Rows<'a> {
         match self.ahead {
             Ahead::Next(line) => {
                 let (ahead, next) = scan(&mut self.lines, self.next);
-                self.given += spelled_len(line.bytes);
                 self.ahead = ahead;
                 self.next = next;
                 Ok(Row::new(line))

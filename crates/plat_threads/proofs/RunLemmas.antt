@@ -1,7 +1,7 @@
 -- riders that have run, alone and by halves
-use Rattle.std.proofs.Common.{◌≡◌, ℕ, zero, suc, ◌<◌, Bool, true, false, List, [], ◌∷◌, ◌++◌, length, map, take, drop, refl, sym, ap, ap₂}
+use Rattle.std.proofs.Common.{◌≡◌, ℕ, zero, suc, ◌<◌, true, false, List, [], ◌∷◌, ◌++◌, length, map, take, drop, sym, ap, ap₂}
 use Rattle.std.proofs.Common.{◌∙◌, subst, arith}
-use Rattle.std.specs.Prelude.{not, slice_index_or}
+use Rattle.std.specs.Prelude.{slice_index_or}
 use Rattle.std.proofs.lemmas.List.{length-map, map-append, take-append-drop}
 use Rattle.std.proofs.lemmas.List.Elements.{All-append}
 use Rattle.std.proofs.lemmas.List.FromFn.{length-range_with_len}
@@ -15,6 +15,7 @@ use Rattle.plat_events.specs.Privates.{actor_count, is_over}
 use Rattle.plat_table.specs.Riders.{BoardSeen, RiderSeen, AreBehind, AreOver, IsOf, is_live_at, numbers_of}
 use Rattle.plat_table.specs.Rule.{Held, held_first, kept_of}
 use Rattle.plat_threads.specs.Running.{HasAll, HasRun, HaveEnded}
+use Rattle.plat_table.proofs.RunLemmas.{numbers-first}
 
 -- ---- one actor
 
@@ -67,10 +68,6 @@ run_both x low high low_run high_run y b kept given l h of crew = record {
 }
 
 -- ---- the whole
-
-numbers-first : (m : Machine) (actors : List ℕ) → numbers_of (map (held_first m) actors) ≡ actors
-numbers-first m [] = refl
-numbers-first m (a ∷ actors) = ap (λ (xs : List ℕ). a ∷ xs) (numbers-first m actors)
 
 first-length : (m : Machine) → length (map (held_first m) (numbers (actor_count m))) ≡ actor_count m
 first-length m = length-map (numbers (actor_count m)) (held_first m) ∙ length-range_with_len 0 (actor_count m)

@@ -5,6 +5,3 @@
 mod running;
 
 pub use running::{Ready, run_threads};
-
-#[cfg(test)]
-mod tests;

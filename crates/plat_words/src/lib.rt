@@ -19,6 +19,3 @@ pub use places::place;
 pub use pool_words::PoolWord;
 pub use ranges::is_word;
 pub use stamp_words::StampWord;
-
-#[cfg(test)]
-mod tests;

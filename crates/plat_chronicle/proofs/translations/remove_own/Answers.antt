@@ -1,16 +1,11 @@
-use Rattle.std.proofs.Common.{◌≡◌, ℕ, ◌<◌, ◌≤◌, List, length, take, get_or, ap, ◌∙◌, refl, arith}
+use Rattle.std.proofs.Common.{◌≡◌, ℕ, ◌<◌, ◌≤◌, List, length, take, get_or, ap, ◌∙◌, arith}
 use Rattle.std.specs.Prelude.{◌==◌}
 use Rattle.std.specs.List.{list_any}
 use Rattle.std.proofs.lemmas.List.{take_all}
 use Rattle.plat_base.specs.Seen.{machine}
 use Rattle.plat_base.specs.Pages.{page_of, entries_of_page}
-use Rattle.plat_chronicle.proofs.EntryLemmas.{entries_of_page-below, entries_of_page-has, page_of-none}
+use Rattle.plat_base.proofs.EntryLists.{entries_of_page-below, entries_of_page-has}
 use Rattle.plat_chronicle.proofs.translations.remove_own.Goals as goal
-
-pub returns-then-page-ge-PAGES-clause-places : goal.returns-then-page-ge-PAGES-clause-places
-returns-then-page-ge-PAGES-clause-places c = λ entry within.
-    rw (page_of-none (machine c.args.cfg.now) c.args.page c.args.cfg.now.limits c.if-page-ge-PAGES.true entry
-    (omega (arith, within, c.requires))) refl
 
 pub remove_entry-requires : goal.remove_entry-requires
 remove_entry-requires c =

@@ -6,11 +6,14 @@ use Rattle.plat_cmd.proofs.RunLemmas.{next_turn_is, over_turns_is}
 use Rattle.plat_cmd.proofs.coarse_runs.make_turns.Goals as goal
 
 pub loop-turn-init : goal.loop-turn-init
-loop-turn-init g c = record { config = refl; policy = refl; plan = c.requires.plan; run = c.requires.start }
+loop-turn-init g c =
+    record { config = refl; policy = refl; plan = c.requires.plan; run = c.requires.start; live = c.live_word-live.ensures }
 
 pub next_turn-requires : goal.next_turn-requires
-next_turn-requires g c =
-    record { plan = c.loop-turn.invariant.plan ∙ ap (λ (m : Machine). m.schedule) (sym c.loop-turn.invariant.config) }
+next_turn-requires g c = record {
+  plan = c.loop-turn.invariant.plan ∙ ap (λ (m : Machine). m.schedule) (sym c.loop-turn.invariant.config);
+  live = c.loop-turn.invariant.live;
+}
 
 pub returns-then-not-next_turn-clause-machine : goal.returns-then-not-next_turn-clause-machine
 returns-then-not-next_turn-clause-machine g c = c.next_turn.ensures.machine ∙ c.loop-turn.invariant.config
@@ -36,6 +39,7 @@ loop-turn-preserved g c =
           (standing c.loop-turn.coarse c.loop-turn.schedule) (standing c.next_turn.new.coarse c.next_turn.new.schedule)
           c.loop-turn._turn c.loop-turn.invariant.config (ap answer c.loop-turn.invariant.policy)
           c.loop-turn.invariant.run c.next_turn.ensures.turn;
+      live = c.next_turn.ensures.live;
     }
 
 pub returns-clause-machine : goal.returns-clause-machine

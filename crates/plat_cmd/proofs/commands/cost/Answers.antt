@@ -8,9 +8,16 @@ use Rattle.plat_cmd.proofs.commands.cost.Goals as goal
 pub returns-in-Ok : goal.returns-in-Ok
 returns-in-Ok g c =
     did command.Cost g.S.Source g.K.Sink c.args.source.now c.read_judged.new.source c.args.sink.now c.costed.new.sink c.costed.result
-    (seen c.in-Ok.judged.history) c.in-Ok.ensures.read c.costed.ensures c.in-Ok.ensures.only c.read_judged.ensures.count
-    (takes_ok history_text (g.S.Source.left c.args.source.now) (g.S.Source.left c.read_judged.new.source) c.read_judged.result
-    c.in-Ok.judged c.in-Ok.is c.read_judged.ensures.taken)
+    (seen c.in-Ok.judged.history)
+    (record {
+      read = c.in-Ok.ensures.read;
+      only = c.in-Ok.ensures.only;
+      count = c.read_judged.ensures.count;
+      short =
+          takes_ok history_text (g.S.Source.left c.args.source.now) (g.S.Source.left c.read_judged.new.source) c.read_judged.result
+          c.in-Ok.judged c.in-Ok.is c.read_judged.ensures.taken;
+    })
+    c.costed.ensures
 
 pub returns-in-Err : goal.returns-in-Err
 returns-in-Err g c =

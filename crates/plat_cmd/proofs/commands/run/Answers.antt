@@ -1,77 +1,48 @@
-use Rattle.std.proofs.Common.{◌≡◌, inr, refl, sym, subst, ◌∙◌, ⊎_elim}
+use Rattle.std.proofs.Common.{sym, subst}
 use Rattle.plat_base.specs.Seen.{machine}
-use Rattle.plat_cmd.specs.Inputs.{machine_text, too_long}
-use Rattle.plat_cmd.specs.Promises.{IsNoRefusal, Promises}
-use Rattle.plat_cmd.specs.Steps.{stop_status}
-use Rattle.plat_cmd.specs.declared.words.Command.{Command}
+use Rattle.plat_cmd.specs.Inputs.{machine_text}
+use Rattle.plat_cmd.specs.Promises.{Promises}
 use Rattle.plat_cmd.specs.declared.words.Command.TheVariants as command
 use Rattle.plat_cmd.specs.declared.words.Output.{Output}
 use Rattle.plat_cmd.specs.declared.words.Output.TheVariants as output
-use Rattle.plat_cmd.specs.declared.outcomes.Stop.TheVariants as stop
-use Rattle.plat_cmd.proofs.PromiseLemmas.{did, stopped, told_all, told_as, only_it, stop_is, not_refused, takes_ok, takes_err, takes_short}
+use Rattle.plat_cmd.proofs.PromiseLemmas.{HasReadAll, did_or_not, stopped}
+use Rattle.plat_cmd.proofs.ToldLemmas.{machine_read, no_machine, ends_so}
+use Rattle.plat_cmd.proofs.commands.run.Given.{Over}
+use Rattle.plat_cmd.proofs.commands.run.Goals.{In-Ok}
 use Rattle.plat_cmd.proofs.commands.run.Goals as goal
 
--- the output of this arm
-of_output : (o p : Output) → o ≡ p → (P : Command → Type 0) → P (command.Run p) → P (command.Run o)
-of_output o p same P holds = subst (λ (x : Output). P (command.Run x)) (sym same) holds
+-- what was read
+told : (g : Over) (c : In-Ok g) → HasReadAll machine_text g.S.Source c.args.source.now c.read_machine.new.source (machine c.in-Ok.cfg)
+told g c =
+    let read = c.read_machine.ensures in
+    machine_read g.S.Source c.args.source.now c.read_machine.new.source c.read_machine.result c.in-Ok.cfg c.in-Ok.is read.found read.exact
+    read.all read.count read.only read.taken
 
 pub returns-in-Report : goal.returns-in-Report
 returns-in-Report g c =
-    let did_run = command.Run output.Report in
-    let told = g.S.Source.left c.args.source.now in
-    let left = g.S.Source.left c.read_machine.new.source in
-    let read = c.read_machine.result in
-    let m = machine c.in-Ok.cfg in
-    let out = c.run_reported.result in
-    of_output c.args.output output.Report c.in-Report.is
-    (λ d. Promises d g.S.Source g.K.Sink c.args.source.now c.read_machine.new.source c.args.sink.now c.run_reported.new.sink out)
-    (⊎_elim
-    (λ run. did did_run g.S.Source g.K.Sink c.args.source.now c.read_machine.new.source c.args.sink.now c.run_reported.new.sink out m
-    (told_as told left read c.in-Ok.cfg c.in-Ok.is c.read_machine.ensures.found c.read_machine.ensures.exact c.read_machine.ensures.all) run
-    (only_it machine_text told read machine c.read_machine.ensures.only c.in-Ok.cfg c.in-Ok.is) c.read_machine.ensures.count
-    (takes_ok machine_text told left read c.in-Ok.cfg c.in-Ok.is c.read_machine.ensures.taken))
-    (λ has. stopped did_run g.S.Source g.K.Sink c.args.source.now c.read_machine.new.source c.args.sink.now c.run_reported.new.sink out
-    stop.OutOfMemory tt tt has
-    (told_all machine_text told (λ it. IsNoRefusal (stop_status stop.OutOfMemory)) (λ it. inr refl)) c.read_machine.ensures.count
-    (takes_short machine_text told left ⊥ (stop.OutOfMemory ≡ stop.Refused too_long) (λ f. f) (λ is. cc)
-    (takes_ok machine_text told left read c.in-Ok.cfg c.in-Ok.is c.read_machine.ensures.taken))) c.run_reported.ensures)
+    subst
+    (λ (o : Output). Promises (command.Run o) g.S.Source g.K.Sink c.args.source.now c.read_machine.new.source c.args.sink.now
+    c.run_reported.new.sink c.run_reported.result)
+    (sym c.in-Report.is)
+    (did_or_not (command.Run output.Report) g.S.Source g.K.Sink c.args.source.now c.read_machine.new.source c.args.sink.now
+    c.run_reported.new.sink c.run_reported.result (machine c.in-Ok.cfg)
+    (told g (goal.at.returns-in-Report g c).In-Ok) tt c.run_reported.ensures)
 
 pub returns-in-Trace : goal.returns-in-Trace
 returns-in-Trace g c =
-    let did_run = command.Run output.Trace in
-    let told = g.S.Source.left c.args.source.now in
-    let left = g.S.Source.left c.read_machine.new.source in
-    let read = c.read_machine.result in
-    let m = machine c.in-Ok.cfg in
-    let out = c.run_traced.result in
-    of_output c.args.output output.Trace c.in-Trace.is
-    (λ d. Promises d g.S.Source g.K.Sink c.args.source.now c.read_machine.new.source c.args.sink.now c.run_traced.new.sink out)
-    (⊎_elim
-    (λ run. did did_run g.S.Source g.K.Sink c.args.source.now c.read_machine.new.source c.args.sink.now c.run_traced.new.sink out m
-    (told_as told left read c.in-Ok.cfg c.in-Ok.is c.read_machine.ensures.found c.read_machine.ensures.exact c.read_machine.ensures.all) run
-    (only_it machine_text told read machine c.read_machine.ensures.only c.in-Ok.cfg c.in-Ok.is) c.read_machine.ensures.count
-    (takes_ok machine_text told left read c.in-Ok.cfg c.in-Ok.is c.read_machine.ensures.taken))
-    (λ has. stopped did_run g.S.Source g.K.Sink c.args.source.now c.read_machine.new.source c.args.sink.now c.run_traced.new.sink out
-    stop.OutOfMemory tt tt has
-    (told_all machine_text told (λ it. IsNoRefusal (stop_status stop.OutOfMemory)) (λ it. inr refl)) c.read_machine.ensures.count
-    (takes_short machine_text told left ⊥ (stop.OutOfMemory ≡ stop.Refused too_long) (λ f. f) (λ is. cc)
-    (takes_ok machine_text told left read c.in-Ok.cfg c.in-Ok.is c.read_machine.ensures.taken))) c.run_traced.ensures)
+    subst
+    (λ (o : Output). Promises (command.Run o) g.S.Source g.K.Sink c.args.source.now c.read_machine.new.source c.args.sink.now
+    c.run_traced.new.sink c.run_traced.result)
+    (sym c.in-Trace.is)
+    (did_or_not (command.Run output.Trace) g.S.Source g.K.Sink c.args.source.now c.read_machine.new.source c.args.sink.now
+    c.run_traced.new.sink c.run_traced.result (machine c.in-Ok.cfg)
+    (told g (goal.at.returns-in-Trace g c).In-Ok) tt c.run_traced.ensures)
 
 pub returns-in-Err : goal.returns-in-Err
 returns-in-Err g c =
-    let told = g.S.Source.left c.args.source.now in
-    let left = g.S.Source.left c.read_machine.new.source in
-    let read = c.read_machine.result in
-    stopped (command.Run c.args.output) g.S.Source g.K.Sink c.args.source.now c.read_machine.new.source c.args.sink.now c.args.sink.now
-    c.without_run.result
-    c.in-Err.stop
-    (stop_is machine_text told read (g.S.Source.faults c.args.source.now) (g.S.Source.faults c.read_machine.new.source) c.in-Err.stop
-    c.in-Err.is c.read_machine.ensures.stopped)
-    tt (record {
-      ended = c.without_run.ensures.status ∙ c.stop_status.ensures;
-      history = c.without_run.ensures.kept;
-      no_threads = c.without_run.ensures.ran;
-      sink = refl;
-    })
-    (not_refused machine_text told read machine c.read_machine.ensures.only c.in-Err.stop c.in-Err.is) c.read_machine.ensures.count
-    (takes_err machine_text told left read c.in-Err.stop c.in-Err.is c.read_machine.ensures.taken)
+    stopped (command.Run c.args.output) g.S.Source g.K.Sink c.args.source.now c.read_machine.new.source
+    c.args.sink.now c.args.sink.now c.without_run.result c.in-Err.stop
+    (no_machine g.S.Source c.args.source.now c.read_machine.new.source c.read_machine.result c.in-Err.stop c.in-Err.is
+    c.read_machine.ensures.stopped c.read_machine.ensures.count c.read_machine.ensures.only c.read_machine.ensures.taken)
+    (ends_so c.args.sink.now c.in-Err.stop c.stop_status.result c.without_run.result c.without_run.ensures.status c.stop_status.ensures
+    c.without_run.ensures.kept c.without_run.ensures.ran)

@@ -1,10 +1,11 @@
-use Rattle.std.proofs.Common.{◌≢◌, ◌<◌, length, arith, below_more, sym, ap, ◌∙◌}
+use Rattle.std.proofs.Common.{◌<◌, length, arith, sym, ap, ◌∙◌}
 use Rattle.plat_base.specs.Machine.{Machine}
 use Rattle.plat_base.specs.Seen.{machine}
 use Rattle.plat_fine.specs.FineSeen.{is_live}
 use Rattle.plat_laws.proofs.Limits.{nodes-most}
-use Rattle.plat_sched.proofs.ActorsLemmas.{actors_are, is_set-with_same, is_set-with_other}
+use Rattle.plat_sched.proofs.ActorsLemmas.{actors_are}
 use Rattle.plat_cmd.proofs.FineRunLemmas.{clear_or_absent, count-most}
+use Rattle.plat_cmd.proofs.LiveLemmas.{ShowsBelow-set, ShowsBelow-clear}
 use Rattle.plat_cmd.proofs.fine_runs.live_word.Goals as goal
 use Rattle.plat_cmd.proofs.fine_runs.live_word.Goals.{then-live, else-live}
 
@@ -14,26 +15,11 @@ loop-actor-preserved c =
     omega (arith, nodes-most (machine c.config.result.now) c.config.result.now.limits, c.loop-actor-test.true) in
     elim c.if-live.branch [
       | then-live w ↦
-          rw w.live-is
-          (record {
-            set =
-                below_more _ _
-                (λ a l.
-                let ne : a ≢ c.loop-actor.actor = omega arith in
-                is_set-with_other c.loop-actor.live c.loop-actor.actor a low ne ∙ c.loop-actor.invariant.set a l)
-                (is_set-with_same c.loop-actor.live c.loop-actor.actor low ∙ (sym w.if-live.true ∙ c.live.ensures));
-            clear = λ a l m.
-                let ne : a ≢ c.loop-actor.actor = omega arith in
-                is_set-with_other c.loop-actor.live c.loop-actor.actor a low ne ∙ c.loop-actor.invariant.clear a (omega arith) m;
-          })
+          rw w.live-is (ShowsBelow-set _ c.loop-actor.actor c.loop-actor.live c.loop-actor.invariant low
+          (sym w.if-live.true ∙ c.live.ensures))
       | else-live w ↦
-          rw w.live-is
-          (record {
-            set =
-                below_more _ _ c.loop-actor.invariant.set
-                (c.loop-actor.invariant.clear c.loop-actor.actor (omega arith) low ∙ (sym w.if-live.false ∙ c.live.ensures));
-            clear = λ a l m. c.loop-actor.invariant.clear a (omega arith) m;
-          })
+          rw w.live-is (ShowsBelow-clear _ c.loop-actor.actor c.loop-actor.live c.loop-actor.invariant low
+          (sym w.if-live.false ∙ c.live.ensures))
     ]
 
 pub returns : goal.returns

@@ -4,8 +4,13 @@ use Rattle.plat_cmd.specs.Steps.{standing_fine, after_events}
 use Rattle.plat_cmd.proofs.FineRunLemmas.{actors_are_there, next_event_is, over_events_is}
 use Rattle.plat_cmd.proofs.fine_runs.make_events.Goals as goal
 
+pub live_word-live-requires : goal.live_word-live-requires
+live_word-live-requires c =
+    actors_are_there c.args.fine.now.machine c.args.fine.now.machine (standing_fine c.args.fine.now c.args.schedule.now) 0 refl
+    c.requires.start
+
 pub loop-event-init : goal.loop-event-init
-loop-event-init c = record { config = refl; plan = c.requires.plan; run = c.requires.start }
+loop-event-init c = record { config = refl; plan = c.requires.plan; run = c.requires.start; live = c.live_word-live.ensures }
 
 pub next_event-requires : goal.next_event-requires
 next_event-requires c = record {
@@ -14,6 +19,7 @@ next_event-requires c = record {
       actors_are_there c.args.fine.now.machine c.loop-event.fine.machine (standing_fine c.loop-event.fine c.loop-event.schedule)
       c.loop-event._event
       c.loop-event.invariant.config c.loop-event.invariant.run;
+  live = c.loop-event.invariant.live;
 }
 
 pub returns-then-not-next_event-clause-machine : goal.returns-then-not-next_event-clause-machine
@@ -33,6 +39,7 @@ loop-event-preserved c = record {
       next_event_is c.args.fine.now.machine c.loop-event.fine.machine (standing_fine c.loop-event.fine c.loop-event.schedule)
       (standing_fine c.next_event.new.fine c.next_event.new.schedule) c.loop-event._event c.loop-event.invariant.config
       c.loop-event.invariant.run c.next_event.ensures.event;
+  live = c.next_event.ensures.live;
 }
 
 pub returns-clause-machine : goal.returns-clause-machine

@@ -3,7 +3,7 @@ use Rattle.plat_cmd.specs.Inputs.{IsToldHistory, IfTold, history_text}
 use Rattle.plat_history.specs.Shown.{seen}
 use Rattle.plat_history.specs.declared.histories.History.{History}
 use Rattle.plat_cmd.proofs.JudgingLemmas.{of_same, all_not_judged}
-use Rattle.plat_cmd.proofs.PromiseLemmas.{told_history, only_it}
+use Rattle.plat_cmd.proofs.ToldLemmas.{told_history, only_it}
 use Rattle.plat_cmd.proofs.judgings.read_judged.Goals as goal
 
 pub returns-in-Ok-clause-read : goal.returns-in-Ok-clause-read

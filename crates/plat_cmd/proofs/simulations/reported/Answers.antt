@@ -1,4 +1,4 @@
-use Rattle.std.proofs.Common.{refl, ap, sym, ◌∙◌, List}
+use Rattle.std.proofs.Common.{ap, sym, ◌∙◌, List}
 use Rattle.plat_base.specs.Rules.{Good}
 use Rattle.plat_base.specs.Report.{report}
 use Rattle.plat_base.specs.Statuses.{status_of}

@@ -1,4 +1,4 @@
-use Rattle.std.proofs.Common.{◌≡◌, subst, sym, false}
+use Rattle.std.proofs.Common.{◌≡◌, ◌∙◌, Some, ap, subst, sym, false}
 use Rattle.std.specs.Prelude.{IsTrue}
 use Rattle.plat_base.specs.Machine.{Machine}
 use Rattle.plat_base.specs.Frames.{is_starved}
@@ -28,14 +28,9 @@ decide-requires-clause-fits g c =
 pub returns : goal.returns
 returns g c =
     let m = c.args.chronicle.now.machine in
-    let starved = starved-got m (g.P.Policy.answer c.args.policy.now) c.args.chronicle.now.items c.args.q c.args.page c.args.now
-    c.args.cause in
-    let none : is_starved m c.args.chronicle.now.items c.args.q c.args.page ≡ false =
-    cc (starved, c.is_starved.ensures, c.if-is_starved.false, c.got_frame-got.ensures, c.dir-dir.ensures) in
     let P : Machine → Type 0 = λ m. c.decide.result ≡ decide m (g.P.Policy.answer c.args.policy.now) c.dir-dir.result c.last.result
     c.args.now c.args.q c.args.cause c.got_frame-got.result in
     let here : P m = subst P c.config.ensures c.decide.ensures in
     let is = rw (c.dir-dir.ensures, c.last.ensures, c.got_frame-got.ensures) at here in
-    let goes = decided-fed m (g.P.Policy.answer c.args.policy.now) c.args.chronicle.now.items c.args.q c.args.page c.args.now c.args.cause
-    none in
-    cc (is, goes)
+    ap Some is ∙ sym (decided-fed m (g.P.Policy.answer c.args.policy.now) c.args.chronicle.now.items c.args.q c.args.page c.args.now
+    c.args.cause (fed g c.before))

@@ -1,13 +1,9 @@
-use Rattle.std.proofs.Common.{◌≡◌, ◌<◌, ℕ, Bool, true, false, length, arith}
-use Rattle.std.specs.Prelude.{◌==◌}
-use Rattle.std.proofs.lemmas.Bool.Decides.{nat_tests}
+use Rattle.std.proofs.Common.{◌≡◌, Bool, true, false, length}
 use Rattle.plat_base.specs.Seen.{machine}
 use Rattle.plat_cost.proofs.BoundLaws.{first_row, certificate_rows, certificate_least}
 use Rattle.plat_cost.proofs.PlanLaws.{certified}
 use Rattle.plat_cost.proofs.bounds.check_bound.Goals as goal
-
-some_there : (n : ℕ) (b : Bool) → b ≡ (n == 0) → b ≡ false → 0 < n
-some_there n b e f = grind (arith, nat_tests)
+use Rattle.plat_cost.proofs.PageLemmas.{some_there}
 
 pub is_least-requires : goal.is_least-requires
 is_least-requires c =

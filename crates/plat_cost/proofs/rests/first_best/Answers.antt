@@ -1,12 +1,8 @@
-use Rattle.std.proofs.Common.{◌≡◌, ◌<◌, ℕ, Bool, false, length, arith}
-use Rattle.std.specs.Prelude.{◌==◌}
-use Rattle.std.proofs.lemmas.Bool.Decides.{nat_tests}
+use Rattle.std.proofs.Common.{false, length, arith}
 use Rattle.plat_base.specs.Seen.{machine}
 use Rattle.plat_cost.proofs.RestLaws.{best_of}
 use Rattle.plat_cost.proofs.rests.first_best.Goals as goal
-
-some_there : (n : ℕ) (b : Bool) → b ≡ (n == 0) → b ≡ false → 0 < n
-some_there n b e f = grind (arith, nat_tests)
+use Rattle.plat_cost.proofs.PageLemmas.{some_there}
 
 pub returns-clause-best : goal.returns-clause-best
 returns-clause-best c =

@@ -5,7 +5,7 @@ use Rattle.plat_base.specs.Copies.{same_frame}
 use Rattle.plat_base.specs.declared.frames.Frame.{Frame}
 use Rattle.plat_handler.specs.Decided.{going_to}
 use Rattle.plat_handler.proofs.GoingLemmas.{left_from, left_from-start, left_from-none, left_from-kept, left_from-goes, left_from-end}
-use Rattle.plat_shoot.proofs.EntryLemmas.{at_next, at_first}
+use Rattle.plat_shoot.proofs.WalkLemmas.{at_next, at_first}
 use Rattle.plat_base.proofs.CopiesLemmas.{copy_on-module}
 use Rattle.plat_handler.proofs.decisions.frame_going.Goals as goal
 use Rattle.plat_handler.proofs.decisions.frame_going.Goals.{in-Some+then-not-has_frame+else-left-eq0, in-Some+else-not-has_frame}

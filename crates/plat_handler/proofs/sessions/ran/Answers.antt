@@ -27,7 +27,7 @@ returns-in_default c =
     let followed : is_followed m (Some (session_next m (answer_of m) lock.actor lock.tick
     (session_seen lock (phase_seen posts c.args.phase)) (phase_seen posts c.args.phase))) c.args.old ≡ true =
     ap (λ (x : WordName × Op). is_followed m (Some x) c.args.old)
-    (sym (c.operation-name.ensures.operation ∙ next-posts m lock posts c.args.old c.args.phase))
+    (sym (next-posts m lock posts c.args.old c.args.phase))
     ∙ sym c.is_followed.ensures ∙ grind (arith, nat_tests, c.if-not-is_followed.false) in
     record {
       shoots = c.entered.ensures.shoots;

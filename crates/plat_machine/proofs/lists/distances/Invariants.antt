@@ -7,7 +7,7 @@ use Rattle.plat_machine.proofs.lists.distances.Given as goal
 -- what is left reads on as the whole does
 abbrev pub invariant-loop-list : goal.invariant-loop-list
 invariant-loop-list l =
-    repeated (codes "distance") same_nodes (distance_line l.nodes) l.rows.stop l.rows.given l.list.items l.rows.rows
+    repeated (codes "distance") same_nodes (distance_line l.nodes) l.rows.stop l.list.items l.rows.rows
     ≡ all_with (codes "distance") same_nodes (distance_line l.nodes) l.fn.rows
 
 abbrev pub decreases-loop-list : goal.decreases-loop-list

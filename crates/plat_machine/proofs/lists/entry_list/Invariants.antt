@@ -7,7 +7,7 @@ use Rattle.plat_machine.proofs.lists.entry_list.Given as goal
 -- what is left reads on as the whole does
 abbrev pub invariant-loop-list : goal.invariant-loop-list
 invariant-loop-list l =
-    repeated (codes "map") same_place (entry_line l.pages) l.rows.stop l.rows.given l.list.items l.rows.rows
+    repeated (codes "map") same_place (entry_line l.pages) l.rows.stop l.list.items l.rows.rows
     ≡ all_with (codes "map") same_place (entry_line l.pages) l.fn.rows
 
 abbrev pub decreases-loop-list : goal.decreases-loop-list

@@ -7,7 +7,7 @@ use Rattle.plat_machine.proofs.lists.inits.Given as goal
 -- what is left reads on as the whole does
 abbrev pub invariant-loop-list : goal.invariant-loop-list
 invariant-loop-list l =
-    repeated (codes "init") same_word (init_line l.pages l.words) l.rows.stop l.rows.given l.list.items l.rows.rows
+    repeated (codes "init") same_word (init_line l.pages l.words) l.rows.stop l.list.items l.rows.rows
     ≡ all_with (codes "init") same_word (init_line l.pages l.words) l.fn.rows
 
 abbrev pub decreases-loop-list : goal.decreases-loop-list

@@ -1,5 +1,5 @@
 use Rattle.plat_base.specs.Seen.{machine}
-use Rattle.plat_shoot.proofs.EntryLemmas.{entries_of_page-below}
+use Rattle.plat_base.proofs.EntryLists.{entries_of_page-below}
 use Rattle.plat_shoot.proofs.entries.entry_of_page.Goals as goal
 
 pub returns-clause-within : goal.returns-clause-within

@@ -2,7 +2,7 @@ use Rattle.std.proofs.Common.{◌≡◌, ◌+◌, length, List, ℕ, suc, ap, sy
 use Rattle.std.specs.Prelude.{slice_get, ◌==◌, ◌&&◌, not}
 use Rattle.plat_events.specs.Words.{has_reference}
 use Rattle.plat_shoot.specs.Sought.{others}
-use Rattle.plat_shoot.proofs.EntryLemmas.{rest_from-next, rest_from-past, at_next}
+use Rattle.plat_shoot.proofs.WalkLemmas.{rest_from-next, rest_from-past, at_next}
 use Rattle.plat_shoot.proofs.TargetLemmas.{others_from}
 use Rattle.plat_shoot.proofs.targets.other_at.Goals as goal
 use Rattle.plat_shoot.proofs.targets.other_at.Goals.{then-is_other+else-left-eq0, else-is_other}

@@ -1,9 +1,7 @@
-use Rattle.std.proofs.Common.{◌≡◌, ◌≤◌, ℕ}
+use Rattle.std.proofs.Common.{◌≡◌}
 use Rattle.plat_grammar.specs.Forms.{rest_of}
-use Rattle.plat_text.specs.Sizes.{lines_size}
 use Rattle.plat_text.proofs.ahead.scan.Given as goal
 
 -- no row was passed over
 abbrev pub invariant-loop-next : goal.invariant-loop-next
-invariant-loop-next l =
-    (rest_of l.next l.lines ≡ rest_of l.fn.next l.fn.lines) × (lines_size l.lines ≤ lines_size l.fn.lines)
+invariant-loop-next l = rest_of l.next l.lines ≡ rest_of l.fn.next l.fn.lines

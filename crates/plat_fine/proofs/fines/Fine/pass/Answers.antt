@@ -9,48 +9,39 @@ use Rattle.plat_fine.specs.FineSeen.{FineSeen, RunsOn, is_live}
 use Rattle.plat_fine.proofs.EventLemmas.{fine_of}
 use Rattle.plat_fine.proofs.ActorLemmas.{live-daemon}
 use Rattle.plat_fine.proofs.RunLemmas.{HasSwept, room-left_swept, RunsOn-swept, event-swept}
+use Rattle.plat_fine.proofs.fines.Fine.pass.Goals.{After-sweep-made}
 use Rattle.plat_fine.proofs.fines.Fine.pass.Goals as goal
+
+-- the event that the daemon made
+swept : (c : After-sweep-made) → HasSwept (machine c.self.inside.cfg) c.in-Some.daemon c.sweep-made.new.daemon c.self.inside.port
+    c.sweep-made.new.port c.sweep-made.result
+swept c =
+    let made = c.sweep-made.ensures in
+    record { event = made.event; item = made.item; fits = made.fits; count = made.words }
+
+-- the run before it
+runs : (c : After-sweep-made) → RunsOn (machine c.self.inside.cfg) c.self.inside.procs.items (Some c.in-Some.daemon) c.self.inside.port
+    c.self.inside.history
+runs c =
+    let m = machine c.self.inside.cfg in
+    subst (λ (d : Option DaemonSeen). RunsOn m c.self.inside.procs.items d c.self.inside.port c.self.inside.history) c.in-Some.is
+    c.self.invariant.0
 
 pub keep-requires : goal.keep-requires
 keep-requires c =
-    let m = machine c.self.inside.cfg in
-    let procs = c.self.inside.procs.items in
-    let x = c.in-Some.daemon in
-    let made = c.sweep-made.ensures in
-    let swept : HasSwept m x c.sweep-made.new.daemon c.self.inside.port c.sweep-made.new.port c.sweep-made.result =
-    record { event = made.event; item = made.item; fits = made.fits; count = made.words } in
-    let runs : RunsOn m procs (Some x) c.self.inside.port c.self.inside.history =
-    subst (λ (d : Option DaemonSeen). RunsOn m procs d c.self.inside.port c.self.inside.history) c.in-Some.is c.self.invariant.0 in
-    room-left_swept m procs x c.sweep-made.new.daemon c.self.inside.port c.sweep-made.new.port c.sweep-made.result c.self.inside.history
-    c.self.inside.cfg.limits runs swept
+    let at = (goal.at.keep-requires c).After-sweep-made in room-left_swept (swept at) c.self.inside.cfg.limits (runs at)
 
 pub invariant_of-self : goal.invariant_of-self
 invariant_of-self c =
-    let m = machine c.self.inside.cfg in
-    let procs = c.self.inside.procs.items in
-    let x = c.in-Some.daemon in
-    let made = c.sweep-made.ensures in
-    let swept : HasSwept m x c.sweep-made.new.daemon c.self.inside.port c.sweep-made.new.port c.sweep-made.result =
-    record { event = made.event; item = made.item; fits = made.fits; count = made.words } in
-    let runs : RunsOn m procs (Some x) c.self.inside.port c.self.inside.history =
-    subst (λ (d : Option DaemonSeen). RunsOn m procs d c.self.inside.port c.self.inside.history) c.in-Some.is c.self.invariant.0 in (
-      RunsOn-swept m procs x c.sweep-made.new.daemon c.self.inside.port c.sweep-made.new.port c.sweep-made.result c.self.inside.history
-          c.keep.new.history
-          runs swept c.keep.ensures.items c.keep.ensures.room,
-      c.self.invariant.1,
-    )
+    let at = (goal.at.invariant_of-self c).After-sweep-made
+    in (RunsOn-swept (swept at) (runs at) c.keep.ensures.items c.keep.ensures.room, c.self.invariant.1)
 
 pub returns-clause-event : goal.returns-clause-event
 returns-clause-event c =
     let m = machine c.self.inside.cfg in
     let procs = c.self.inside.procs.items in
-    let x = c.in-Some.daemon in
-    let made = c.sweep-made.ensures in
-    let swept : HasSwept m x c.sweep-made.new.daemon c.self.inside.port c.sweep-made.new.port c.sweep-made.result =
-    record { event = made.event; item = made.item; fits = made.fits; count = made.words } in
-    event-swept m procs x c.sweep-made.new.daemon c.self.inside.port c.sweep-made.new.port c.sweep-made.result c.self.inside.history.items
-    c.keep.new.history.items
-    c.self.invariant.0.all swept c.keep.ensures.items
+    event-swept (swept (goal.at.returns-clause-event c).After-sweep-made) procs c.self.inside.history.items c.self.invariant.0.all
+    c.keep.ensures.items
     ∙ ap (λ (d : Option DaemonSeen). event_of m (policy_answer m.policy)
     (fine_of c.self.inside.port (privates_of m procs d) c.self.inside.history.items) m.nodes) (sym c.in-Some.is)
     ∙ ap (λ (s : FineSeen). event_of s.machine (policy_answer s.machine.policy) s.fine s.machine.nodes) c.self.view_is

@@ -1,7 +1,8 @@
+use Rattle.std.proofs.Common.{arith}
 use Rattle.plat_base.specs.Seen.{machine}
 use Rattle.plat_events.specs.Privates.{Looking}
 use Rattle.plat_proc.specs.Places.{onward_seen}
-use Rattle.plat_proc.proofs.SpaceEntries.{scans-few}
+use Rattle.plat_base.proofs.EntryLists.{space_entries_few}
 use Rattle.plat_proc.proofs.TurnLemmas.{place-stands}
 use Rattle.plat_proc.proofs.procs.Proc.look.Goals as goal
 
@@ -11,4 +12,4 @@ looked-requires-clause-below c =
     let stands =
     place-stands (machine c.args.cfg.now) x (Looking c.args.i c.args.moment (onward_seen x.handler c.args.onward)) c.args.cfg.now.limits
     c.requires.fits c.requires.at in
-    scans-few c.args.cfg.now x.state.guest.space c.args.i stands.left
+    omega (arith, stands.left, space_entries_few c.args.cfg.now x.state.guest.space)

@@ -1,39 +1,22 @@
-use Rattle.std.proofs.Common.{ap, refl, sym, ◌∙◌, ◌<◌, subst, true}
+use Rattle.std.proofs.Common.{ap, refl, sym, ◌∙◌, subst, true}
 use Rattle.std.specs.Prelude.{IsSome, is_some, Option, ◌≡◌}
 use Rattle.plat_base.specs.Seen.{machine}
 use Rattle.plat_base.specs.declared.items.Translation.{Translation}
-use Rattle.plat_events.specs.Privates.{Private}
 use Rattle.plat_events.specs.Events.{look_up}
-use Rattle.plat_pmap.specs.Slots.{places}
 use Rattle.plat_pmap.specs.Translations.{translation_of, usable}
-use Rattle.plat_proc.specs.Places.{place_seen}
 use Rattle.plat_proc.specs.ProcSeen.{ProcSeen}
+use Rattle.plat_proc.specs.contracts.procs.Proc.{the_view}
 use Rattle.plat_proc.specs.Reached.{reach_seen}
-use Rattle.plat_proc.proofs.AccessLemmas.{is_fault-reached, look_up-found}
+use Rattle.plat_proc.proofs.AccessLemmas.{look_up-found}
 use Rattle.plat_proc.proofs.procs.Proc.look_up.Goals as goal
 use Rattle.plat_proc.proofs.procs.Proc.look_up.Goals.{then-is_write, else-is_write}
-
-pub start-requires-clause-fault : goal.start-requires-clause-fault
-start-requires-clause-fault c =
-    let m = machine c.args.cfg.now in
-    let processor = subst (λ (y : ProcSeen). y.actor < m.nodes) (sym c.self.view_is) c.requires.processor in
-    is_fault-reached m c.self.inside.q c.args.reach.now c.cause.result c.args.cfg.now.limits processor c.requires.leads c.cause.ensures
 
 pub returns-after-is_write-clause-state : goal.returns-after-is_write-clause-state
 returns-after-is_write-clause-state c =
     let m = machine c.args.cfg.now in
     let r = c.args.reach.now in
     let s = c.self.inside in
-    let p : Private = record {
-      turns = s.turns;
-      now = s.tick;
-      guest = s.guest.state;
-      pmap = s.pmap;
-      atc = places s.atc;
-      due = s.due;
-      place = place_seen s.handler s.place;
-      journal = s.journal.items;
-    } in
+    let p = (the_view c.self.inside).state in
     let there : is_some c.find-look.result.found ≡ true = sym c.is_some.ensures ∙ c.if-is_some.true in
     let found : IsSome (usable r.kind (translation_of s.pmap r.entry)) =
     subst (λ (t : Option Translation). IsSome t) c.find-look.ensures.found there in

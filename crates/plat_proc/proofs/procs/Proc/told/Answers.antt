@@ -1,10 +1,9 @@
-use Rattle.std.proofs.Common.{◌≡◌, ℕ, true, Some, refl, sym, ap, ◌∙◌, subst}
-use Rattle.std.specs.Prelude.{IsTrue}
+use Rattle.std.proofs.Common.{◌≡◌, ℕ, true, refl, sym, ap, ◌∙◌, subst}
 use Rattle.plat_base.specs.Seen.{machine}
-use Rattle.plat_base.specs.declared.configs.Config.{Config}
-use Rattle.plat_handler.specs.HandlerSeen.{HandlerSeen, asked}
+use Rattle.plat_base.specs.declared.words.Op.{Op}
+use Rattle.plat_handler.specs.HandlerSeen.{asked}
+use Rattle.plat_handler.specs.declared.asks.Ask.TheVariants as ask
 use Rattle.plat_proc.specs.contracts.procs.Proc.{the_view}
-use Rattle.plat_proc.specs.declared.procs.Proc.TheInside.{Inside}
 use Rattle.plat_proc.specs.declared.places.Place.TheVariants as place
 use Rattle.plat_proc.specs.Cached.{slots_told}
 use Rattle.plat_proc.specs.Fits.{Fits}
@@ -12,263 +11,147 @@ use Rattle.plat_proc.specs.Followed.{told_to}
 use Rattle.plat_proc.specs.Places.{is_faulting}
 use Rattle.plat_proc.specs.ProcSeen.{ProcSeen}
 use Rattle.plat_handler.proofs.HandlerLemmas.{is_word_asked-word}
-use Rattle.plat_proc.proofs.ToldLemmas.{Faults, Follows, faults-of, is-faulting, word-state, word-slots, word-handles, poll-state}
+use Rattle.plat_proc.proofs.ToldLemmas.{Faults, Follows, Unlocks, faults-of, is-faulting, word-state, word-slots, word-handles, poll-state}
 use Rattle.plat_proc.proofs.ToldLemmas.{poll-slots, frameless-state, frameless-slots, granted-state, granted-slots, unlocks-of}
 use Rattle.plat_proc.proofs.ToldLemmas.{unlocks-wants, unlocks-page, unlocks-entries, unlocks-room, unlocks-agrees}
 use Rattle.plat_proc.proofs.FitsLemmas.{stands}
+use Rattle.plat_proc.proofs.procs.Proc.told.Goals.{After-self, After-went_on, In-Granted}
 use Rattle.plat_proc.proofs.procs.Proc.told.Goals as goal
 
--- the processor as the call finds it
-module _ (cfg : Config) (inside : Inside) (x : ProcSeen) (e : the_view inside ≡ x) where
-  fits-here : Fits (machine cfg) x → Fits (machine cfg) (the_view inside)
-  fits-here f = subst (Fits (machine cfg)) (sym e) f
+-- ---- the processor as the call finds it
 
-  place-here : IsTrue (is_faulting x.state.place) → is_faulting (the_view inside).state.place ≡ true
-  place-here t = subst (λ (y : ProcSeen). is_faulting y.state.place ≡ true) (sym e) t
+fits : (c : After-self) → Fits (machine c.args.cfg.now) (the_view c.self.inside)
+fits c = subst (Fits (machine c.args.cfg.now)) (sym c.self.view_is) c.requires.fits
 
-  faults-here :
-      (h : HandlerSeen) → Fits (machine cfg) x → IsTrue (is_faulting x.state.place) → inside.handler ≡ Some h →
-      Faults (machine cfg) (the_view inside) h
-  faults-here h f t k = faults-of (machine cfg) (the_view inside) h inside.place (fits-here f) k refl (place-here t)
+faulting : (c : After-self) → is_faulting (the_view c.self.inside).state.place ≡ true
+faulting c = subst (λ (y : ProcSeen). is_faulting y.state.place ≡ true) (sym c.self.view_is) c.requires.faulting
 
-  stands-faulting : IsTrue (is_faulting x.state.place) → inside.place ≡ place.Faulting
-  stands-faulting t = is-faulting inside.handler inside.place (place-here t)
+here : (c : After-self) → c.self.inside.place ≡ place.Faulting
+here c = is-faulting c.self.inside.handler c.self.inside.place (faulting c)
 
-  state-told : (n : ℕ) → told_to (machine cfg) (the_view inside) n ≡ told_to (machine cfg) x n
-  state-told n = ap (λ (y : ProcSeen). told_to (machine cfg) y n) e
+state-told :
+    (c : After-self) → told_to (machine c.args.cfg.now) (the_view c.self.inside) c.args.found
+    ≡ told_to (machine c.args.cfg.now) c.args.self.now c.args.found
+state-told c = ap (λ (y : ProcSeen). told_to (machine c.args.cfg.now) y c.args.found) c.self.view_is
 
-  slots-told : (n : ℕ) → slots_told (machine cfg) (the_view inside) n ≡ slots_told (machine cfg) x n
-  slots-told n = ap (λ (y : ProcSeen). slots_told (machine cfg) y n) e
+slots-told :
+    (c : After-self) → slots_told (machine c.args.cfg.now) (the_view c.self.inside) c.args.found
+    ≡ slots_told (machine c.args.cfg.now) c.args.self.now c.args.found
+slots-told c = ap (λ (y : ProcSeen). slots_told (machine c.args.cfg.now) y c.args.found) c.self.view_is
+
+-- ---- what its handler did
+
+faults : (c : After-went_on) → Faults (machine c.args.cfg.now) (the_view c.self.inside) c.in-Some.handler
+faults c =
+    let at = (goal.at.After-went_on c).After-self in
+    faults-of (machine c.args.cfg.now) (the_view c.self.inside) c.in-Some.handler c.self.inside.place (fits at) c.in-Some.is refl
+    (faulting at)
+
+follows :
+    (c : After-went_on) →
+    Follows (machine c.args.cfg.now) (the_view c.self.inside) c.in-Some.handler c.went_on.new.handler c.args.found c.went_on.new.pmap
+follows c =
+    let done = c.went_on.ensures in record { stage = done.stage; maps = done.pmap; actor = done.actor; now = done.now }
+
+word :
+    (c : After-went_on) → c.went_on.result ≡ true →
+    (at : ℕ) × (op : Op) × (ask.Word at op ≡ asked (machine c.args.cfg.now) c.went_on.new.handler)
+word c t = is_word_asked-word (asked (machine c.args.cfg.now) c.went_on.new.handler) (sym c.went_on.ensures.asks ∙ t)
+
+unlocks :
+    (c : In-Granted) →
+    Unlocks (machine c.args.cfg.now) (the_view c.self.inside) c.args.found c.went_on.new.pmap c.in-Granted.change
+unlocks c =
+    let at = (goal.at.In-Granted c).After-went_on in
+    unlocks-of (machine c.args.cfg.now) (the_view c.self.inside) c.in-Some.handler c.went_on.new.handler c.args.found c.went_on.new.pmap
+    c.in-Granted.change (faults at) (follows at) c.in-Granted.ensures
+
+-- ---- the goals
 
 pub went_on-requires-clause-entries : goal.went_on-requires-clause-entries
 went_on-requires-clause-entries c =
-    let cfg = c.args.cfg.now in
-    let fits = fits-here cfg c.self.inside c.args.self.now c.self.view_is c.requires.fits in
-    (stands (machine cfg) (the_view c.self.inside) cfg.limits fits).standing.all_entries
+    (stands (machine c.args.cfg.now) (the_view c.self.inside) c.args.cfg.now.limits
+    (fits (goal.at.went_on-requires-clause-entries c).After-self)).standing.all_entries
 
 pub invariant_of-self : goal.invariant_of-self
 invariant_of-self c = (
   c.self.invariant.0,
-  let word = is_word_asked-word (asked (machine c.args.cfg.now) c.went_on.new.handler)
-      (sym c.went_on.ensures.asks ∙ c.if-went_on.true) in
-      word-handles (machine c.args.cfg.now) c.went_on.new.handler c.self.inside.place word.0 word.1
-      (stands-faulting c.args.cfg.now c.self.inside c.args.self.now c.self.view_is c.requires.faulting) word.2,
+  let at = goal.at.invariant_of-self c in
+      let word = word at.After-went_on c.if-went_on.true in
+      word-handles (machine c.args.cfg.now) c.went_on.new.handler c.self.inside.place word.0 word.1 (here at.After-self) word.2,
 )
 
 pub returns-then-went_on-clause-state : goal.returns-then-went_on-clause-state
 returns-then-went_on-clause-state c =
-    let cfg = c.args.cfg.now in
-    let m = machine cfg in
-    let inside = c.self.inside in
-    let y = the_view inside in
-    let h = c.in-Some.handler in
-    let n = c.args.found in
-    let faults = faults-here cfg inside c.args.self.now c.self.view_is h c.requires.fits c.requires.faulting c.in-Some.is in
-    let g = c.went_on.new.handler in
-    let pmap = c.went_on.new.pmap in
-    let w = c.went_on.ensures in
-    let follows : Follows m y h g n pmap = record { stage = w.stage; maps = w.pmap; actor = w.actor; now = w.now } in
-    let fits = fits-here cfg inside c.args.self.now c.self.view_is c.requires.fits in
-    let here = stands-faulting cfg inside c.args.self.now c.self.view_is c.requires.faulting in
-    let word = is_word_asked-word (asked m g) (sym w.asks ∙ c.if-went_on.true) in
-    word-state m y h g n pmap inside.place word.0 word.1 fits.processor faults follows here word.2
-    ∙ state-told cfg inside c.args.self.now c.self.view_is n
+    let at = goal.at.returns-then-went_on-clause-state c in
+    let word = word at.After-went_on c.if-went_on.true in
+    word-state _ _ _ _ _ _ _ word.0 word.1 (fits at.After-self).processor (faults at.After-went_on) (follows at.After-went_on)
+    (here at.After-self) word.2 ∙ state-told at.After-self
 
 pub returns-then-went_on-clause-slots : goal.returns-then-went_on-clause-slots
 returns-then-went_on-clause-slots c =
-    let cfg = c.args.cfg.now in
-    let m = machine cfg in
-    let inside = c.self.inside in
-    let y = the_view inside in
-    let h = c.in-Some.handler in
-    let n = c.args.found in
-    let faults = faults-here cfg inside c.args.self.now c.self.view_is h c.requires.fits c.requires.faulting c.in-Some.is in
-    let g = c.went_on.new.handler in
-    let pmap = c.went_on.new.pmap in
-    let w = c.went_on.ensures in
-    let follows : Follows m y h g n pmap = record { stage = w.stage; maps = w.pmap; actor = w.actor; now = w.now } in
-    let word = is_word_asked-word (asked m g) (sym w.asks ∙ c.if-went_on.true) in
-    word-slots m y h g n pmap word.0 word.1 faults follows word.2
-    ∙ slots-told cfg inside c.args.self.now c.self.view_is n
+    let at = goal.at.returns-then-went_on-clause-slots c in
+    let word = word at.After-went_on c.if-went_on.true in
+    word-slots _ _ _ _ _ _ word.0 word.1 (faults at.After-went_on) (follows at.After-went_on) word.2 ∙ slots-told at.After-self
 
 pub returns-in-Poll-clause-state : goal.returns-in-Poll-clause-state
 returns-in-Poll-clause-state c =
-    let cfg = c.args.cfg.now in
-    let m = machine cfg in
-    let inside = c.self.inside in
-    let y = the_view inside in
-    let h = c.in-Some.handler in
-    let n = c.args.found in
-    let faults = faults-here cfg inside c.args.self.now c.self.view_is h c.requires.fits c.requires.faulting c.in-Some.is in
-    let g = c.went_on.new.handler in
-    let pmap = c.went_on.new.pmap in
-    let w = c.went_on.ensures in
-    let follows : Follows m y h g n pmap = record { stage = w.stage; maps = w.pmap; actor = w.actor; now = w.now } in
-    let fits = fits-here cfg inside c.args.self.now c.self.view_is c.requires.fits in
-    poll-state m y h g n pmap fits.processor faults follows c.in-Poll.ensures ∙ state-told cfg inside c.args.self.now c.self.view_is n
+    let at = goal.at.returns-in-Poll-clause-state c in
+    poll-state _ _ _ _ _ _ (fits at.After-self).processor (faults at.After-went_on) (follows at.After-went_on) c.in-Poll.ensures
+    ∙ state-told at.After-self
 
 pub returns-in-Poll-clause-slots : goal.returns-in-Poll-clause-slots
 returns-in-Poll-clause-slots c =
-    let cfg = c.args.cfg.now in
-    let m = machine cfg in
-    let inside = c.self.inside in
-    let y = the_view inside in
-    let h = c.in-Some.handler in
-    let n = c.args.found in
-    let faults = faults-here cfg inside c.args.self.now c.self.view_is h c.requires.fits c.requires.faulting c.in-Some.is in
-    let g = c.went_on.new.handler in
-    let pmap = c.went_on.new.pmap in
-    let w = c.went_on.ensures in
-    let follows : Follows m y h g n pmap = record { stage = w.stage; maps = w.pmap; actor = w.actor; now = w.now } in
-    poll-slots m y h g n pmap faults follows c.in-Poll.ensures ∙ slots-told cfg inside c.args.self.now c.self.view_is n
+    let at = goal.at.returns-in-Poll-clause-slots c in
+    poll-slots _ _ _ _ _ _ (faults at.After-went_on) (follows at.After-went_on) c.in-Poll.ensures ∙ slots-told at.After-self
 
 pub returns-in-NoFrames-clause-state : goal.returns-in-NoFrames-clause-state
 returns-in-NoFrames-clause-state c =
-    let cfg = c.args.cfg.now in
-    let m = machine cfg in
-    let inside = c.self.inside in
-    let y = the_view inside in
-    let h = c.in-Some.handler in
-    let n = c.args.found in
-    let faults = faults-here cfg inside c.args.self.now c.self.view_is h c.requires.fits c.requires.faulting c.in-Some.is in
-    let g = c.went_on.new.handler in
-    let pmap = c.went_on.new.pmap in
-    let w = c.went_on.ensures in
-    let follows : Follows m y h g n pmap = record { stage = w.stage; maps = w.pmap; actor = w.actor; now = w.now } in
-    let fits = fits-here cfg inside c.args.self.now c.self.view_is c.requires.fits in
-    frameless-state m y h g n pmap fits.processor faults follows c.in-NoFrames.ensures
-    ∙ state-told cfg inside c.args.self.now c.self.view_is n
+    let at = goal.at.returns-in-NoFrames-clause-state c in
+    frameless-state _ _ _ _ _ _ (fits at.After-self).processor (faults at.After-went_on) (follows at.After-went_on)
+    c.in-NoFrames.ensures ∙ state-told at.After-self
 
 pub returns-in-NoFrames-clause-slots : goal.returns-in-NoFrames-clause-slots
 returns-in-NoFrames-clause-slots c =
-    let cfg = c.args.cfg.now in
-    let m = machine cfg in
-    let inside = c.self.inside in
-    let y = the_view inside in
-    let h = c.in-Some.handler in
-    let n = c.args.found in
-    let faults = faults-here cfg inside c.args.self.now c.self.view_is h c.requires.fits c.requires.faulting c.in-Some.is in
-    let g = c.went_on.new.handler in
-    let pmap = c.went_on.new.pmap in
-    let w = c.went_on.ensures in
-    let follows : Follows m y h g n pmap = record { stage = w.stage; maps = w.pmap; actor = w.actor; now = w.now } in
-    frameless-slots m y h g n pmap faults follows c.in-NoFrames.ensures
-    ∙ slots-told cfg inside c.args.self.now c.self.view_is n
+    let at = goal.at.returns-in-NoFrames-clause-slots c in
+    frameless-slots _ _ _ _ _ _ (faults at.After-went_on) (follows at.After-went_on) c.in-NoFrames.ensures
+    ∙ slots-told at.After-self
 
 pub granted-requires-clause-wants : goal.granted-requires-clause-wants
 granted-requires-clause-wants c =
-    let cfg = c.args.cfg.now in
-    let m = machine cfg in
-    let inside = c.self.inside in
-    let y = the_view inside in
-    let h = c.in-Some.handler in
-    let n = c.args.found in
-    let faults = faults-here cfg inside c.args.self.now c.self.view_is h c.requires.fits c.requires.faulting c.in-Some.is in
-    let g = c.went_on.new.handler in
-    let pmap = c.went_on.new.pmap in
-    let w = c.went_on.ensures in
-    let follows : Follows m y h g n pmap = record { stage = w.stage; maps = w.pmap; actor = w.actor; now = w.now } in
-    let fits = fits-here cfg inside c.args.self.now c.self.view_is c.requires.fits in
-    let unlocks = unlocks-of m y h g n pmap c.in-Granted.change faults follows c.in-Granted.ensures in
-    unlocks-wants m y n pmap c.in-Granted.change cfg.limits fits unlocks
+    let at = goal.at.granted-requires-clause-wants c in
+    unlocks-wants _ _ _ _ _ c.args.cfg.now.limits (fits at.After-self) (unlocks at.In-Granted)
 
 pub granted-requires-clause-page : goal.granted-requires-clause-page
 granted-requires-clause-page c =
-    let cfg = c.args.cfg.now in
-    let m = machine cfg in
-    let inside = c.self.inside in
-    let y = the_view inside in
-    let h = c.in-Some.handler in
-    let n = c.args.found in
-    let faults = faults-here cfg inside c.args.self.now c.self.view_is h c.requires.fits c.requires.faulting c.in-Some.is in
-    let g = c.went_on.new.handler in
-    let pmap = c.went_on.new.pmap in
-    let w = c.went_on.ensures in
-    let follows : Follows m y h g n pmap = record { stage = w.stage; maps = w.pmap; actor = w.actor; now = w.now } in
-    let fits = fits-here cfg inside c.args.self.now c.self.view_is c.requires.fits in
-    let unlocks = unlocks-of m y h g n pmap c.in-Granted.change faults follows c.in-Granted.ensures in
-    unlocks-page m y n pmap c.in-Granted.change cfg.limits fits unlocks
+    let at = goal.at.granted-requires-clause-page c in
+    unlocks-page _ _ _ _ _ c.args.cfg.now.limits (fits at.After-self) (unlocks at.In-Granted)
 
 pub granted-requires-clause-entries : goal.granted-requires-clause-entries
 granted-requires-clause-entries c =
-    let cfg = c.args.cfg.now in
-    let m = machine cfg in
-    let inside = c.self.inside in
-    let y = the_view inside in
-    let h = c.in-Some.handler in
-    let n = c.args.found in
-    let faults = faults-here cfg inside c.args.self.now c.self.view_is h c.requires.fits c.requires.faulting c.in-Some.is in
-    let g = c.went_on.new.handler in
-    let pmap = c.went_on.new.pmap in
-    let w = c.went_on.ensures in
-    let follows : Follows m y h g n pmap = record { stage = w.stage; maps = w.pmap; actor = w.actor; now = w.now } in
-    let fits = fits-here cfg inside c.args.self.now c.self.view_is c.requires.fits in
-    let unlocks = unlocks-of m y h g n pmap c.in-Granted.change faults follows c.in-Granted.ensures in
-    unlocks-entries m y n pmap c.in-Granted.change cfg.limits fits unlocks
+    let at = goal.at.granted-requires-clause-entries c in
+    unlocks-entries _ _ _ _ _ c.args.cfg.now.limits (fits at.After-self) (unlocks at.In-Granted)
 
 pub granted-requires-clause-room : goal.granted-requires-clause-room
 granted-requires-clause-room c =
-    let cfg = c.args.cfg.now in
-    let m = machine cfg in
-    let inside = c.self.inside in
-    let y = the_view inside in
-    let h = c.in-Some.handler in
-    let n = c.args.found in
-    let faults = faults-here cfg inside c.args.self.now c.self.view_is h c.requires.fits c.requires.faulting c.in-Some.is in
-    let g = c.went_on.new.handler in
-    let pmap = c.went_on.new.pmap in
-    let w = c.went_on.ensures in
-    let follows : Follows m y h g n pmap = record { stage = w.stage; maps = w.pmap; actor = w.actor; now = w.now } in
-    let fits = fits-here cfg inside c.args.self.now c.self.view_is c.requires.fits in
-    let unlocks = unlocks-of m y h g n pmap c.in-Granted.change faults follows c.in-Granted.ensures in
-    unlocks-room m y n pmap c.in-Granted.change cfg.limits fits unlocks
+    let at = goal.at.granted-requires-clause-room c in
+    unlocks-room _ _ _ _ _ c.args.cfg.now.limits (fits at.After-self) (unlocks at.In-Granted)
 
 pub granted-requires-clause-agrees : goal.granted-requires-clause-agrees
 granted-requires-clause-agrees c =
-    let cfg = c.args.cfg.now in
-    let m = machine cfg in
-    let inside = c.self.inside in
-    let y = the_view inside in
-    let h = c.in-Some.handler in
-    let n = c.args.found in
-    let faults = faults-here cfg inside c.args.self.now c.self.view_is h c.requires.fits c.requires.faulting c.in-Some.is in
-    let g = c.went_on.new.handler in
-    let pmap = c.went_on.new.pmap in
-    let w = c.went_on.ensures in
-    let follows : Follows m y h g n pmap = record { stage = w.stage; maps = w.pmap; actor = w.actor; now = w.now } in
-    let fits = fits-here cfg inside c.args.self.now c.self.view_is c.requires.fits in
-    let unlocks = unlocks-of m y h g n pmap c.in-Granted.change faults follows c.in-Granted.ensures in
-    unlocks-agrees m y n pmap c.in-Granted.change cfg.limits fits unlocks
+    let at = goal.at.granted-requires-clause-agrees c in
+    unlocks-agrees _ _ _ _ _ c.args.cfg.now.limits (fits at.After-self) (unlocks at.In-Granted)
 
 pub returns-in-Granted-clause-state : goal.returns-in-Granted-clause-state
 returns-in-Granted-clause-state c =
-    let cfg = c.args.cfg.now in
-    let m = machine cfg in
-    let inside = c.self.inside in
-    let y = the_view inside in
-    let h = c.in-Some.handler in
-    let n = c.args.found in
-    let faults = faults-here cfg inside c.args.self.now c.self.view_is h c.requires.fits c.requires.faulting c.in-Some.is in
-    let g = c.went_on.new.handler in
-    let pmap = c.went_on.new.pmap in
-    let w = c.went_on.ensures in
-    let follows : Follows m y h g n pmap = record { stage = w.stage; maps = w.pmap; actor = w.actor; now = w.now } in
-    let fits = fits-here cfg inside c.args.self.now c.self.view_is c.requires.fits in
-    c.granted.ensures.state ∙ granted-state m y h g n pmap c.in-Granted.change fits.processor faults follows c.in-Granted.ensures
-    ∙ state-told cfg inside c.args.self.now c.self.view_is n
+    let at = goal.at.returns-in-Granted-clause-state c in
+    c.granted.ensures.state
+    ∙ granted-state _ _ _ _ _ _ _ (fits at.After-self).processor (faults at.After-went_on) (follows at.After-went_on)
+    c.in-Granted.ensures ∙ state-told at.After-self
 
 pub returns-in-Granted-clause-slots : goal.returns-in-Granted-clause-slots
 returns-in-Granted-clause-slots c =
-    let cfg = c.args.cfg.now in
-    let m = machine cfg in
-    let inside = c.self.inside in
-    let y = the_view inside in
-    let h = c.in-Some.handler in
-    let n = c.args.found in
-    let faults = faults-here cfg inside c.args.self.now c.self.view_is h c.requires.fits c.requires.faulting c.in-Some.is in
-    let g = c.went_on.new.handler in
-    let pmap = c.went_on.new.pmap in
-    let w = c.went_on.ensures in
-    let follows : Follows m y h g n pmap = record { stage = w.stage; maps = w.pmap; actor = w.actor; now = w.now } in
-    c.granted.ensures.slots ∙ granted-slots m y h g n pmap c.in-Granted.change faults follows c.in-Granted.ensures
-    ∙ slots-told cfg inside c.args.self.now c.self.view_is n
+    let at = goal.at.returns-in-Granted-clause-slots c in
+    c.granted.ensures.slots
+    ∙ granted-slots _ _ _ _ _ _ _ (faults at.After-went_on) (follows at.After-went_on) c.in-Granted.ensures
+    ∙ slots-told at.After-self

@@ -24,7 +24,7 @@ returns-clause-fits c =
     record {
       actor = before.actor;
       page = before.page;
-      shoot = rw c.after-self-inside.ensures
+      shoot = rw c.after-self-inside.ensures.step
           (shot_after-fits m o.actor o.page o.removed posts c.args.old shot fits
           (followed-word m o.actor o.page o.removed posts c.args.old shot name));
     }

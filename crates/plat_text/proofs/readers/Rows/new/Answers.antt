@@ -1,8 +1,6 @@
 use Rattle.std.proofs.Common.{◌∙◌, ap}
 use Rattle.plat_grammar.specs.Forms.{rest_of}
-use Rattle.plat_text.proofs.RowLemmas.{rest_of_none_given}
 use Rattle.plat_text.proofs.readers.Rows.new.Goals as goal
 
 pub returns : goal.returns
-returns c =
-    c.scan-next.ensures.rows 0 ∙ rest_of_none_given c.args.first c.new-lines.result ∙ ap (λ ls. rest_of c.args.first ls) c.new-lines.ensures
+returns c = c.scan-next.ensures ∙ ap (λ ls. rest_of c.args.first ls) c.new-lines.ensures

@@ -1,5 +1,0 @@
-use Rattle.std.proofs.Common.{◌≡◌}
-use Rattle.plat_coarse.proofs.tests.run.Given as goal
-
-abbrev pub invariant-loop-q : goal.invariant-loop-q
-invariant-loop-q g l = l.coarse.machine ≡ l.fn.coarse.machine

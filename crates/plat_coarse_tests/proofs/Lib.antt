@@ -1,0 +1,3 @@
+pub mod ReportTriedLemmas
+pub mod CostTriedRows
+pub mod CostTriedLemmas

@@ -1,0 +1,10 @@
+use Rattle.std.proofs.Common.{◌≡◌, [], ◌∷◌, None, refl}
+use Rattle.plat_base.specs.Machine.{programs_seen}
+use Rattle.plat_coarse_tests.specs.CoarseTried.{labelled}
+use Rattle.plat_coarse_tests.proofs.coarse_tests.alone.Goals as goal
+
+pub config-requires : goal.config-requires
+config-requires c =
+    let guests : programs_seen c.in_ok-guests.guests.items ≡ labelled c.args.code.now None ∷ [] =
+    rw (c.in_ok-guests.ensures, c.in_ok-labelled.ensures) refl in
+    record { limits = rw guests c.requires.limits; short = rw guests c.requires.short }

@@ -1,6 +1,0 @@
-use Rattle.plat_base.specs.Seen.{machine}
-use Rattle.plat_cost.specs.Placements.{IsFor}
-use Rattle.plat_cost.proofs.tests.places_a_page.Given as goal
-
-abbrev pub invariant-loop-items : goal.invariant-loop-items
-invariant-loop-items g l = IsFor (machine l.cfg) l.placer

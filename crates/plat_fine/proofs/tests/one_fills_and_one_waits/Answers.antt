@@ -1,9 +1,0 @@
-use Rattle.std.proofs.Common.{refl}
-use Rattle.std.specs.Fmt.{digits}
-use Rattle.plat_base.specs.Canon.{is_short, canon_text}
-use Rattle.plat_fine.proofs.tests.one_fills_and_one_waits.Goals as goal
-
--- the canonical text is computed
-pub run-requires-clause-short : goal.run-requires-clause-short
-unfolding is_short canon_text digits
-run-requires-clause-short g c = refl

@@ -1,0 +1,2 @@
+pub mod ProcTried
+pub mod DaemonTried

@@ -1,9 +1,0 @@
-use Rattle.std.proofs.Common.{refl}
-use Rattle.std.specs.Fmt.{digits}
-use Rattle.plat_base.specs.Canon.{is_short, canon_text}
-use Rattle.plat_guest.proofs.tests.halts_past_its_last_instruction.Goals as goal
-
--- the canonical text is computed
-pub small_config-requires-clause-short : goal.small_config-requires-clause-short
-unfolding is_short canon_text digits
-small_config-requires-clause-short g c = refl

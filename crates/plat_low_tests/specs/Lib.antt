@@ -1,0 +1,2 @@
+pub mod GuestTried
+pub mod FlatTried

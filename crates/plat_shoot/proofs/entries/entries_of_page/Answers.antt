@@ -1,9 +1,0 @@
-use Rattle.std.proofs.Common.{◌≤◌, sym, arith}
-use Rattle.plat_base.specs.declared.limits.TheConstants.{PAGES}
-use Rattle.plat_shoot.proofs.EntryLemmas.{entries_of_page-none}
-use Rattle.plat_shoot.proofs.entries.entries_of_page.Goals as goal
-
-pub returns-else-page-lt-PAGES : goal.returns-else-page-lt-PAGES
-returns-else-page-lt-PAGES c =
-    let past : PAGES ≤ c.args.page = omega (arith, c.if-page-lt-PAGES.false) in
-    sym (entries_of_page-none c.args.cfg.now c.args.page past)

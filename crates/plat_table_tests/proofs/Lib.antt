@@ -1,0 +1,2 @@
+pub mod TableTriedLemmas
+pub mod MergeTriedLemmas
