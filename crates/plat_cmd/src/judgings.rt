@@ -9,7 +9,7 @@ ghost use Rattle.plat_cmd.specs.Works.{first_bad_of};
 
 use crate::outcomes::stop_status;
 use crate::readings::read_history_text;
-use plat_base::{Config, OutOfMemory, Status};
+use plat_base::{Bad, Config, OutOfMemory, Status};
 use plat_history::History;
 use plat_io::Source;
 use plat_judge::Judge;
@@ -20,6 +20,18 @@ use std::alloc::Global;
 pub struct Judged<T> {
     pub history: History,
     pub memory: T,
+}
+
+/// The first bad item of a history, with its rule. The judge takes its memory first.
+fn first_bad(alloc: Global, history: &History) -> Result<Option<Bad>, OutOfMemory>
+    ensures { IfOk result (λ bad. bad ≡ first_bad_of (seen history.now)) }
+{
+    let judge = Judge::new(alloc, &history.cfg)?;
+    Ok(judge.judge(
+        &history.cfg,
+        history.items.as_slice(),
+        history.ends.as_slice(),
+    ))
 }
 
 /// Takes the memory of the command and of the judge, and then judges a history.
@@ -38,16 +50,10 @@ fn judge<T: Drop, F: FnOnce(&Config) -> Result<T, OutOfMemory>>(
     let Ok(memory) = prepare(&history.cfg) else {
         return Err(Status::OutOfMemory);
     };
-    let Ok(judge) = Judge::new(alloc, &history.cfg) else {
-        return Err(Status::OutOfMemory);
-    };
-    match judge.judge(
-        &history.cfg,
-        history.items.as_slice(),
-        history.ends.as_slice(),
-    ) {
-        None => Ok(Judged { history, memory }),
-        Some(bad) => Err(Status::HistoryBad(bad)),
+    match first_bad(alloc, &history) {
+        Ok(None) => Ok(Judged { history, memory }),
+        Ok(Some(bad)) => Err(Status::HistoryBad(bad)),
+        Err(OutOfMemory) => Err(Status::OutOfMemory),
     }
 }
 

@@ -130,6 +130,48 @@ fn run<P: Policy>(coarse: &mut Coarse<P>, order: &[u32])
     }
 }
 
+// A worked run: turns in this order, and what they come to behind the items that were made before.
+#[derive(Clone, Copy)]
+struct Worked<'a> {
+    order: &'a [u32],
+    before: &'a [Item],
+    items: &'a [Item],
+    ends: &'a [Ended],
+}
+
+// Whether a run comes to what was worked out.
+fn comes_to<P: Policy>(coarse: &mut Coarse<P>, worked: &Worked<'_>) -> bool {
+    run(coarse, worked.order);
+    coarse.history().strip_prefix(worked.before) == Some(worked.items)
+        && coarse.ends() == worked.ends
+}
+
+// Whether a run on two nodes of four frames each, whose guests have no label, comes to what was worked out.
+fn pair_comes_to(
+    alloc: Global,
+    policy: PolicyKind,
+    start: u32,
+    first: &[Instr],
+    second: &[Instr],
+    worked: &Worked<'_>,
+) -> Result<bool, OutOfMemory>
+    requires limits { IsTrue (is_machine
+        (tried 2 4 policy start (labelled first.now None ∷ labelled second.now None ∷ []))) }
+    requires short { IsTrue (is_short
+        (tried 2 4 policy start (labelled first.now None ∷ labelled second.now None ∷ []))) }
+{
+    let mut coarse = pair(alloc, policy, start, None, first, second)?;
+    Ok(comes_to(&mut coarse, worked))
+}
+
+// Whether a run on one node hands out these items and ends.
+fn hands_out(coarse: Coarse, items: &[Item], ends: &[Ended]) -> bool {
+    let finished = coarse.finish();
+    finished.cfg.nodes == 1
+        && finished.items.as_slice() == items
+        && finished.ends.as_slice() == ends
+}
+
 // ---- instructions
 
 const LOAD: Instr = Instr::Load {
@@ -356,10 +398,11 @@ fn switched(actor: u32, space: u32) -> Item {
 }
 
 fn halted(turns: u32) -> Ended {
-    Ended {
-        end: End::Halted,
-        turns,
-    }
+    ended(End::Halted, turns)
+}
+
+fn ended(end: End, turns: u32) -> Ended {
+    Ended { end, turns }
 }
 
 // Processor 0 stores 0, and then processor 1 does: at tick 2 the page migrates.
@@ -377,7 +420,6 @@ fn moved() -> [Item; 5] {
 
 #[test]
 fn one_processor_fills_a_page_and_ends(rt: HostRuntime) -> Result<(), Fail> {
-    let alloc = rt.alloc();
     let code = [
         Instr::Set { d: 1, n: 5 },
         STORE,
@@ -385,25 +427,20 @@ fn one_processor_fills_a_page_and_ends(rt: HostRuntime) -> Result<(), Fail> {
         Instr::Print(1),
         Instr::Halt,
     ];
-    let mut coarse = alone(alloc, 1, &code)?;
-    assert_eq!(rt; most_turns(coarse.config()), 100);
-    assert!(rt; coarse.history().is_empty());
+    let mut coarse = alone(rt.alloc(), 1, &code)?;
+    let fresh = most_turns(coarse.config()) == 100 && coarse.history().is_empty();
     run(&mut coarse, &[0, 0, 0]);
-    assert!(rt; coarse.live(0));
+    assert!(rt; fresh && coarse.live(0));
     assert_eq!(rt; coarse.turn(0), Turned::Ran);
     assert!(rt; coarse.live(0));
     assert_eq!(rt; coarse.turn(0), Turned::Ended(End::Halted));
     assert!(rt; !coarse.live(0));
-    assert_eq!(rt; coarse.ends(), [halted(5)].as_slice());
     let items = [
         filled(0, 2, Right::Write),
         stored(0, 0, 5, 1, 0, 0),
         loaded(0, 5, 1, 0, 0),
     ];
-    let finished = coarse.finish();
-    assert_eq!(rt; finished.cfg.frames, 1);
-    assert_eq!(rt; finished.items.as_slice(), items.as_slice());
-    assert_eq!(rt; finished.ends.as_slice(), [halted(5)].as_slice());
+    assert!(rt; hands_out(coarse, &items, &[halted(5)]));
     Ok(())
 }
 
@@ -411,16 +448,14 @@ fn one_processor_fills_a_page_and_ends(rt: HostRuntime) -> Result<(), Fail> {
 fn an_empty_page_wants_a_frame(rt: HostRuntime) -> Result<(), Fail> {
     let code = [LOAD, LOAD_NEXT_PAGE, Instr::Halt];
     let mut coarse = alone(rt.alloc(), 1, &code)?;
-    run(&mut coarse, &[0]);
-    assert!(rt; coarse.live(0));
-    assert_eq!(rt; coarse.turn(0), Turned::Ended(End::NoFrames));
-    let ended = Ended {
-        end: End::NoFrames,
-        turns: 2,
-    };
-    assert_eq!(rt; coarse.ends(), [ended].as_slice());
     let items = [filled(0, 1, Right::Read), loaded(0, 0, 0, 0, 0)];
-    assert_eq!(rt; coarse.history(), items.as_slice());
+    let worked = Worked {
+        order: &[0, 0],
+        before: &[],
+        items: &items,
+        ends: &[ended(End::NoFrames, 2)],
+    };
+    assert!(rt; comes_to(&mut coarse, &worked));
     Ok(())
 }
 
@@ -428,8 +463,6 @@ fn an_empty_page_wants_a_frame(rt: HostRuntime) -> Result<(), Fail> {
 fn a_page_stays_and_is_read_from_afar(rt: HostRuntime) -> Result<(), Fail> {
     let reads = [LOAD, Instr::Halt];
     let prints = [LOAD, Instr::Print(1), Instr::Halt];
-    let mut coarse = pair(rt.alloc(), PolicyKind::Place, 9, None, &reads, &prints)?;
-    run(&mut coarse, &[0, 0, 1, 1, 1]);
     let items = [
         filled(0, 1, Right::Read),
         loaded(0, 9, 0, 0, 0),
@@ -442,8 +475,14 @@ fn a_page_stays_and_is_read_from_afar(rt: HostRuntime) -> Result<(), Fail> {
         ),
         loaded(1, 9, 0, 0, 1),
     ];
-    assert_eq!(rt; coarse.history(), items.as_slice());
-    assert_eq!(rt; coarse.ends(), [halted(2), halted(3)].as_slice());
+    let worked = Worked {
+        order: &[0, 0, 1, 1, 1],
+        before: &[],
+        items: &items,
+        ends: &[halted(2), halted(3)],
+    };
+    let agrees = pair_comes_to(rt.alloc(), PolicyKind::Place, 9, &reads, &prints, &worked)?;
+    assert!(rt; agrees);
     Ok(())
 }
 
@@ -452,7 +491,6 @@ fn the_given_policy_is_asked(rt: HostRuntime) -> Result<(), Fail> {
     let writes = [LOAD, CLEAR, Instr::Halt];
     let reads = [LOAD, Instr::Halt];
     let mut coarse = trio(rt.alloc(), AtMost { copies: 2 }, &writes, &reads)?;
-    run(&mut coarse, &[0, 1, 2, 0]);
     let items = [
         filled(0, 1, Right::Read),
         loaded(0, 9, 0, 0, 0),
@@ -465,7 +503,13 @@ fn the_given_policy_is_asked(rt: HostRuntime) -> Result<(), Fail> {
         collapsed(3, 4),
         stored(0, 9, 0, 1, 0, 3),
     ];
-    assert_eq!(rt; coarse.history(), items.as_slice());
+    let worked = Worked {
+        order: &[0, 1, 2, 0],
+        before: &[],
+        items: &items,
+        ends: &[ended(End::Cut, 2), ended(End::Cut, 1), ended(End::Cut, 1)],
+    };
+    assert!(rt; comes_to(&mut coarse, &worked));
     Ok(())
 }
 
@@ -475,8 +519,6 @@ fn translations_are_shot_down(rt: HostRuntime) -> Result<(), Fail> {
     let eight = Instr::Set { d: 1, n: 8 };
     let writes = [seven, STORE, eight, STORE, Instr::Halt];
     let reads = [LOAD, Instr::Print(1), Instr::Halt];
-    let mut coarse = pair(rt.alloc(), PolicyKind::Replicate, 0, None, &writes, &reads)?;
-    run(&mut coarse, &[0, 0, 1, 0, 0, 1, 1, 0]);
     let items = [
         filled(0, 2, Right::Write),
         stored(0, 0, 7, 1, 0, 0),
@@ -487,8 +529,21 @@ fn translations_are_shot_down(rt: HostRuntime) -> Result<(), Fail> {
         collapsed(2, 5),
         stored(0, 7, 8, 2, 0, 2),
     ];
-    assert_eq!(rt; coarse.history(), items.as_slice());
-    assert_eq!(rt; coarse.ends(), [halted(5), halted(3)].as_slice());
+    let worked = Worked {
+        order: &[0, 0, 1, 0, 0, 1, 1, 0],
+        before: &[],
+        items: &items,
+        ends: &[halted(5), halted(3)],
+    };
+    let agrees = pair_comes_to(
+        rt.alloc(),
+        PolicyKind::Replicate,
+        0,
+        &writes,
+        &reads,
+        &worked,
+    )?;
+    assert!(rt; agrees);
     Ok(())
 }
 
@@ -503,8 +558,6 @@ fn what_waits_is_applied_at_the_switch(rt: HostRuntime) -> Result<(), Fail> {
         Instr::Print(1),
         Instr::Halt,
     ];
-    let mut coarse = pair(rt.alloc(), PolicyKind::Replicate, 0, None, &writes, &reads)?;
-    run(&mut coarse, &[1, 1, 0, 0, 1, 1, 1]);
     let items = [
         filled(1, 1, Right::Read),
         loaded(1, 0, 0, 1, 0),
@@ -517,7 +570,21 @@ fn what_waits_is_applied_at_the_switch(rt: HostRuntime) -> Result<(), Fail> {
         copied(1, 2, 6, Removed::Writes, one_copy(State::Modified, 0)),
         loaded(1, 4, 1, 1, 2),
     ];
-    assert_eq!(rt; coarse.history(), items.as_slice());
+    let worked = Worked {
+        order: &[1, 1, 0, 0, 1, 1, 1],
+        before: &[],
+        items: &items,
+        ends: &[ended(End::Cut, 2), ended(End::Cut, 5)],
+    };
+    let agrees = pair_comes_to(
+        rt.alloc(),
+        PolicyKind::Replicate,
+        0,
+        &writes,
+        &reads,
+        &worked,
+    )?;
+    assert!(rt; agrees);
     Ok(())
 }
 
@@ -526,51 +593,55 @@ fn a_frozen_page_stays(rt: HostRuntime) -> Result<(), Fail> {
     let policy = PolicyKind::Platinum { t1: 10, t2: 64 };
     let thrice = [CLEAR, CLEAR, CLEAR, Instr::Halt];
     let twice = [CLEAR, CLEAR, Instr::Halt];
-    let mut coarse = pair(rt.alloc(), policy, 0, None, &thrice, &twice)?;
-    run(&mut coarse, &[0, 1, 0, 1, 0, 1, 0]);
     let stays = [
         froze(3),
         stored(0, 0, 0, 3, 1, 2),
         stored(1, 0, 0, 4, 1, 1),
         stored(0, 0, 0, 5, 1, 2),
     ];
-    assert_eq!(rt;
-        coarse.history().strip_prefix(&moved()),
-        Some(stays.as_slice())
-    );
-    assert_eq!(rt; coarse.ends(), [halted(4), halted(3)].as_slice());
+    let worked = Worked {
+        order: &[0, 1, 0, 1, 0, 1, 0],
+        before: &moved(),
+        items: &stays,
+        ends: &[halted(4), halted(3)],
+    };
+    let agrees = pair_comes_to(rt.alloc(), policy, 0, &thrice, &twice, &worked)?;
+    assert!(rt; agrees);
     Ok(())
 }
 
-// A run with a window of three ticks, after the invalidation of tick 2.
-fn windowed(alloc: Global, order: &[u32]) -> Result<Coarse, OutOfMemory> {
+// Whether a run with a window of three ticks, after the invalidation of tick 2, comes to these items and ends.
+fn windowed(
+    alloc: Global,
+    order: &[u32],
+    items: &[Item],
+    ends: &[Ended],
+) -> Result<bool, OutOfMemory> {
     let policy = PolicyKind::Platinum { t1: 3, t2: 64 };
     let one = Instr::Set { d: 1, n: 1 };
     let twice = [CLEAR, CLEAR, Instr::Halt];
     let once = [CLEAR, one, one, Instr::Halt];
-    let mut coarse = pair(alloc, policy, 0, None, &twice, &once)?;
-    run(&mut coarse, order);
-    Ok(coarse)
+    let worked = Worked {
+        order,
+        before: &moved(),
+        items,
+        ends,
+    };
+    pair_comes_to(alloc, policy, 0, &twice, &once, &worked)
 }
 
 #[test]
 fn the_window_has_an_edge(rt: HostRuntime) -> Result<(), Fail> {
-    let inside = windowed(rt.alloc(), &[0, 1, 1, 0])?;
     let freezes = [froze(4), stored(0, 0, 0, 3, 1, 2)];
-    assert_eq!(rt;
-        inside.history().strip_prefix(&moved()),
-        Some(freezes.as_slice())
-    );
-    let outside = windowed(rt.alloc(), &[0, 1, 1, 1, 0])?;
+    let ends = [ended(End::Cut, 2), ended(End::Cut, 2)];
+    assert!(rt; windowed(rt.alloc(), &[0, 1, 1, 0], &freezes, &ends)?);
     let moves = [
         applied(1, Message::Invalidate, Moment::Interrupt),
         migrated(0, 2, 5, one_copy(State::Modified, 1)),
         stored(0, 0, 0, 3, 0, 2),
     ];
-    assert_eq!(rt;
-        outside.history().strip_prefix(&moved()),
-        Some(moves.as_slice())
-    );
+    let ends = [ended(End::Cut, 2), ended(End::Cut, 3)];
+    assert!(rt; windowed(rt.alloc(), &[0, 1, 1, 1, 0], &moves, &ends)?);
     Ok(())
 }
 
@@ -605,10 +676,12 @@ fn a_thawed_page_may_be_copied(rt: HostRuntime) -> Result<(), Fail> {
         copied(0, 4, 67, Removed::Nothing, one_copy(State::Present1, 1)),
         loaded(0, 0, 3, 0, 4),
     ];
-    assert_eq!(rt;
-        coarse.history().strip_prefix(&moved()),
-        Some(thaws.as_slice())
-    );
-    assert_eq!(rt; coarse.ends(), [halted(67), halted(2)].as_slice());
+    let worked = Worked {
+        order: &[],
+        before: &moved(),
+        items: &thaws,
+        ends: &[halted(67), halted(2)],
+    };
+    assert!(rt; comes_to(&mut coarse, &worked));
     Ok(())
 }

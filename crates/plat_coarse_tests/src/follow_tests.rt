@@ -1,9 +1,9 @@
 //! Followers of small guests, whose turns were counted by hand.
-ghost use Rattle.std.specs.Prelude.{◌≡◌, ◌∷◌, [], IfOk, IsTrue};
+ghost use Rattle.std.specs.Prelude.{◌≡◌, ◌∷◌, [], IfOk, IsTrue, length};
 ghost use Rattle.plat_base.specs.Canon.{is_short};
 ghost use Rattle.plat_base.specs.Machine.{is_machine, program_seen};
 ghost use Rattle.plat_base.specs.Seen.{machine};
-ghost use Rattle.plat_follow.specs.Followed.{Stands};
+ghost use Rattle.plat_follow.specs.Followed.{AllStand, Stands};
 ghost use Rattle.plat_coarse_tests.specs.FollowTried.{labelled, tried};
 
 use plat_base::{
@@ -139,28 +139,92 @@ fn fitting(follower: &Follower, cfg: &Config, end: End, lacks_right: bool) -> u3
     found
 }
 
+// Whether its store is next, and it may have ended before it so, and not otherwise.
+fn stores_next(follower: &Follower, cfg: &Config) -> bool
+    requires { Stands (machine cfg.now) follower.now }
+{
+    follower.next() == Some(Wanted::Access(STORE))
+        && fitting(follower, cfg, End::Cut, false) == 0b111
+        && fitting(follower, cfg, End::NoFrames, true) == 0b100
+        && fitting(follower, cfg, End::NoFrames, false) == 0
+}
+
+// Whether its addition is next, and it may have ended before it so, and not otherwise.
+fn adds_next(follower: &Follower, cfg: &Config) -> bool
+    requires { Stands (machine cfg.now) follower.now }
+{
+    follower.next() == Some(Wanted::Access(ADD))
+        && fitting(follower, cfg, End::Cut, true) == 0b1_1100
+        && fitting(follower, cfg, End::NoFrames, true) == 0b1_0000
+        && fitting(follower, cfg, End::Halted, true) == 0
+}
+
+// Whether it may have ended so behind its last operation, and not otherwise.
+fn halts_next(follower: &Follower, cfg: &Config) -> bool
+    requires { Stands (machine cfg.now) follower.now }
+{
+    fitting(follower, cfg, End::Cut, false) == 0b111_0000
+        && fitting(follower, cfg, End::Halted, false) == 0b100_0000
+        && fitting(follower, cfg, End::Trapped, false) == 0
+}
+
 #[test]
 fn a_guest_stands_at_its_operations(rt: HostRuntime) -> Result<(), Fail> {
     let alloc = rt.alloc();
     let cfg = config(alloc, &STORES, 6, &TURNS, 1)?;
     let mut follower = Follower::new(&cfg, 0);
-    assert_eq!(rt; follower.next(), Some(Wanted::Access(STORE)));
-    assert_eq!(rt; fitting(&follower, &cfg, End::Cut, false), 0b111);
-    assert_eq!(rt; fitting(&follower, &cfg, End::NoFrames, true), 0b100);
-    assert_eq!(rt; fitting(&follower, &cfg, End::NoFrames, false), 0);
-    assert!(rt; follower.next().is_some());
+    assert!(rt; follower.next().is_some() && stores_next(&follower, &cfg));
     follower.made(&cfg, 9);
-    assert_eq!(rt; follower.next(), Some(Wanted::Access(ADD)));
-    assert_eq!(rt; fitting(&follower, &cfg, End::Cut, true), 0b1_1100);
-    assert_eq!(rt; fitting(&follower, &cfg, End::NoFrames, true), 0b1_0000);
-    assert_eq!(rt; fitting(&follower, &cfg, End::Halted, true), 0);
-    assert!(rt; follower.next().is_some());
+    assert!(rt; follower.next().is_some() && adds_next(&follower, &cfg));
     follower.made(&cfg, 7);
-    assert_eq!(rt; follower.next(), None);
-    assert_eq!(rt; fitting(&follower, &cfg, End::Cut, false), 0b111_0000);
-    assert_eq!(rt; fitting(&follower, &cfg, End::Halted, false), 0b100_0000);
-    assert_eq!(rt; fitting(&follower, &cfg, End::Trapped, false), 0);
+    assert!(rt; follower.next().is_none() && halts_next(&follower, &cfg));
     Ok(())
+}
+
+// Whether processor 0 wants the store, and processor 1 the switch to space 3.
+fn both_want(followers: &Followers, stored: &Access, added: &Access) -> bool
+    requires { length followers.now ≡ 2 }
+{
+    let Some(first) = followers.next(0) else {
+        return false;
+    };
+    let Some(second) = followers.next(1) else {
+        return false;
+    };
+    let other = first.is_access(&access(STORE, 9, 9)) || first.is_access(added);
+    first.is_access(stored)
+        && !other
+        && !first.is_switch(0)
+        && second.is_switch(3)
+        && !second.is_switch(0)
+}
+
+fn follow(followers: &mut Followers, cfg: &Config, items: &[Item])
+    requires { AllStand (machine cfg.now) followers.old }
+    ensures { AllStand (machine cfg.now) followers.new }
+{
+    for item in items {
+        followers.add(cfg, item);
+    }
+}
+
+// Whether processor 0 may have trapped, and processor 1 have been cut off or spent, but neither otherwise.
+fn ended_so(followers: &Followers, cfg: &Config) -> bool
+    requires stand { AllStand (machine cfg.now) followers.now }
+    requires two { cfg.now.nodes ≡ 2 }
+{
+    let six = |end| Ended { end, turns: 6 };
+    let spent = Ended {
+        end: End::Spent,
+        turns: 10,
+    };
+    followers.next(0).is_none()
+        && followers.next(1).is_none()
+        && followers.ends_so(cfg, 0, six(End::Trapped), false)
+        && !followers.ends_so(cfg, 0, six(End::Halted), false)
+        && followers.ends_so(cfg, 1, six(End::Cut), false)
+        && followers.ends_so(cfg, 1, spent, false)
+        && !followers.ends_so(cfg, 0, spent, false)
 }
 
 #[test]
@@ -170,14 +234,7 @@ fn all_guests_are_followed(rt: HostRuntime) -> Result<(), Fail> {
     let mut followers = Followers::new(alloc, &cfg)?;
     let stored = access(STORE, 9, 5);
     let added = access(ADD, 0, 5);
-    let wanted = followers.next(0).ok_or("no operation")?;
-    assert!(rt; wanted.is_access(&stored));
-    assert!(rt; !wanted.is_access(&access(STORE, 9, 9)));
-    assert!(rt; !wanted.is_access(&added));
-    assert!(rt; !wanted.is_switch(0));
-    let wanted = followers.next(1).ok_or("no operation")?;
-    assert!(rt; wanted.is_switch(3));
-    assert!(rt; !wanted.is_switch(0));
+    assert!(rt; both_want(&followers, &stored, &added));
     let items = [
         Item::Access(stored),
         Item::Applied(Applied {
@@ -189,20 +246,7 @@ fn all_guests_are_followed(rt: HostRuntime) -> Result<(), Fail> {
         Item::Switch(Switch { actor: 1, space: 3 }),
         Item::Access(added),
     ];
-    for item in &items {
-        followers.add(&cfg, item);
-    }
-    assert_eq!(rt; followers.next(0), None);
-    assert_eq!(rt; followers.next(1), None);
-    let six = |end| Ended { end, turns: 6 };
-    assert!(rt; followers.ends_so(&cfg, 0, six(End::Trapped), false));
-    assert!(rt; !followers.ends_so(&cfg, 0, six(End::Halted), false));
-    assert!(rt; followers.ends_so(&cfg, 1, six(End::Cut), false));
-    let spent = Ended {
-        end: End::Spent,
-        turns: 10,
-    };
-    assert!(rt; followers.ends_so(&cfg, 1, spent, false));
-    assert!(rt; !followers.ends_so(&cfg, 0, spent, false));
+    follow(&mut followers, &cfg, &items);
+    assert!(rt; ended_so(&followers, &cfg));
     Ok(())
 }

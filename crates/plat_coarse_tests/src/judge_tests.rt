@@ -1,5 +1,6 @@
 //! Small histories of two processors, good and bad, each with the item and the rule that it breaks.
-ghost use Rattle.std.specs.Prelude.{◌<◌, ◌≤◌, length};
+ghost use Rattle.std.specs.Prelude.{◌≡◌, ◌<◌, ◌≤◌, false, length};
+ghost use Rattle.plat_base.specs.Rules.{has_daemon};
 
 use plat_base::{
     Access, Bad, Change, End, Ended, Frame, Item, Kind, Message, OutOfMemory, PolicyKind, Rule,
@@ -132,46 +133,54 @@ fn a_translation_is_used_and_dropped_once(rt: HostRuntime) -> Result<(), Fail> {
     Ok(())
 }
 
+// What the judge says of the history, or of its first items, with these ends.
+fn judged_until(alloc: Global, count: usize, ends: &[Ended]) -> Result<Option<Bad>, OutOfMemory>
+    requires { count ≤ 8 }
+{
+    judged(alloc, &history()[..count], ends)
+}
+
 #[test]
 fn the_ends_are_those_of_the_guests(rt: HostRuntime) -> Result<(), Fail> {
     let alloc = rt.alloc();
-    let items = history();
-    let broken = bad(8, Rule::Ends);
-    assert_eq!(rt; judged(alloc, &items, &[halted(5), halted(2)])?, broken);
-    assert_eq!(rt; judged(alloc, &items, &[halted(5)])?, broken);
-    assert_eq!(rt;
-        judged(alloc, &items, &[halted(5), halted(3), halted(0)])?,
-        broken
-    );
     let cut = Ended {
         end: End::Cut,
         turns: 2,
     };
-    assert_eq!(rt; judged(alloc, &items, &[halted(5), cut])?, None);
-    assert_eq!(rt;
-        judged(alloc, &items[..4], &[halted(5), cut])?,
-        bad(4, Rule::Ends)
-    );
+    let broken = bad(8, Rule::Ends);
+    let third = [halted(5), halted(3), halted(0)];
+    assert!(rt; judged_until(alloc, 8, &[halted(5), halted(2)])? == broken);
+    assert!(rt; judged_until(alloc, 8, &[halted(5)])? == broken);
+    assert!(rt; judged_until(alloc, 8, &third)? == broken);
+    assert!(rt; judged_until(alloc, 8, &[halted(5), cut])?.is_none());
+    assert!(rt; judged_until(alloc, 4, &[halted(5), cut])? == bad(4, Rule::Ends));
     Ok(())
+}
+
+// What the judge says of the history on a machine of one policy, under its own or one that keeps so many copies.
+fn judged_under(
+    alloc: Global,
+    policy: PolicyKind,
+    given: Option<AtMost>,
+) -> Result<Option<Bad>, OutOfMemory>
+    requires { has_daemon policy ≡ false }
+{
+    let cfg = sharing(alloc, policy)?;
+    let judge = Judge::new(alloc, &cfg)?;
+    let ends = [halted(5), halted(3)];
+    Ok(match given {
+        Some(given) => judge.judge_under(&cfg, &given, &history(), &ends),
+        None => judge.judge(&cfg, &history(), &ends),
+    })
 }
 
 #[test]
 fn a_history_is_good_under_its_own_policy(rt: HostRuntime) -> Result<(), Fail> {
     let alloc = rt.alloc();
-    let items = history();
-    let ends = [halted(5), halted(3)];
-    let two = AtMost { copies: 2 };
-    let placed = sharing(alloc, PolicyKind::Place)?;
-    let judge = Judge::new(alloc, &placed)?;
-    assert_eq!(rt; judge.judge_under(&placed, &two, &items, &ends), None);
-    let judge = Judge::new(alloc, &placed)?;
-    assert_eq!(rt; judge.judge(&placed, &items, &ends), bad(3, Rule::Chain));
-    let one = AtMost { copies: 1 };
-    let replicated = sharing(alloc, PolicyKind::Replicate)?;
-    let judge = Judge::new(alloc, &replicated)?;
-    assert_eq!(rt;
-        judge.judge_under(&replicated, &one, &items, &ends),
-        bad(3, Rule::Chain)
-    );
+    let chain = bad(3, Rule::Chain);
+    let (one, two) = (AtMost { copies: 1 }, AtMost { copies: 2 });
+    assert!(rt; judged_under(alloc, PolicyKind::Place, Some(two))?.is_none());
+    assert!(rt; judged_under(alloc, PolicyKind::Place, None)? == chain);
+    assert!(rt; judged_under(alloc, PolicyKind::Replicate, Some(one))? == chain);
     Ok(())
 }

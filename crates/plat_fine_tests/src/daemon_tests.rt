@@ -74,17 +74,32 @@ impl WordPort for ChosenPort {
     }
 }
 
-/// The daemon's next operation, which finds this word, and how it left the daemon.
-fn stepped(daemon: &mut Daemon, cfg: &Config, found: u64) -> (Option<(usize, Op)>, Went)
+/// Whether the daemon's next operation is this one, where it finds what it is to find, and leaves the daemon so.
+fn steps(daemon: &mut Daemon, cfg: &Config, made: &Made, went: Went) -> bool
     requires { Fits (machine cfg.now) daemon.old }
     ensures { Fits (machine cfg.now) daemon.new }
 {
     if daemon.is_over() {
-        return (None, Went::Ended);
+        return false;
     }
-    let mut port = ChosenPort { found, made: None };
-    let went = daemon.step(cfg, &mut port);
-    (port.made, went)
+    let mut port = ChosenPort {
+        found: made.found,
+        made: None,
+    };
+    daemon.step(cfg, &mut port) == went && port.made == Some((made.at, made.op))
+}
+
+/// Whether the daemon's next operations are these, and it goes on behind each.
+fn makes(daemon: &mut Daemon, cfg: &Config, operations: &[Made]) -> bool
+    requires { Fits (machine cfg.now) daemon.old }
+    ensures { Fits (machine cfg.now) daemon.new }
+{
+    for made in operations {
+        if !steps(daemon, cfg, made, Went::More) {
+            return false;
+        }
+    }
+    true
 }
 
 /// The daemon's next operation on the words of a port.
@@ -97,6 +112,10 @@ fn step_on(daemon: &mut Daemon, cfg: &Config, port: &mut RecordPort)
     if !daemon.is_over() {
         daemon.step(cfg, port);
     }
+}
+
+fn made(at: usize, op: Op, found: u64) -> Made {
+    Made { at, op, found }
 }
 
 /// The directory of a page with its one copy on module 0.
@@ -112,26 +131,22 @@ fn single(state: State, frozen: bool) -> Dir {
     }
 }
 
-#[test]
-fn it_looks_on_while_no_pass_is_due(rt: HostRuntime) -> Result<(), Fail> {
-    let cfg = three_nodes(rt.alloc())?;
-    let mut daemon = Daemon::new(rt.alloc(), &cfg)?;
-    let mut port = RecordPort::new(rt.alloc(), &cfg, 4)?;
+/// Whether the daemon looks at the live processors and at the time in turns, and no more, from its first operation on.
+fn looks_on(alloc: Global) -> Result<bool, OutOfMemory> {
+    let cfg = three_nodes(alloc)?;
+    let mut daemon = Daemon::new(alloc, &cfg)?;
+    let mut port = RecordPort::new(alloc, &cfg, 4)?;
     for _ in 0..4 {
         step_on(&mut daemon, &cfg, &mut port);
     }
-    let live = Made {
-        at: 1,
-        op: Op::Load,
-        found: 3,
-    };
-    let time = Made {
-        at: 0,
-        op: Op::Load,
-        found: 0,
-    };
-    assert_eq!(rt; port.made(), [live, time, live, time].as_slice());
-    assert!(rt; daemon.journal().is_empty());
+    let live = made(1, Op::Load, 3);
+    let time = made(0, Op::Load, 0);
+    Ok(port.made() == [live, time, live, time].as_slice() && daemon.journal().is_empty())
+}
+
+#[test]
+fn it_looks_on_while_no_pass_is_due(rt: HostRuntime) -> Result<(), Fail> {
+    assert!(rt; looks_on(rt.alloc())?);
     Ok(())
 }
 
@@ -139,33 +154,29 @@ fn it_looks_on_while_no_pass_is_due(rt: HostRuntime) -> Result<(), Fail> {
 fn a_frozen_page_is_thawed(rt: HostRuntime) -> Result<(), Fail> {
     let cfg = three_nodes(rt.alloc())?;
     let mut daemon = Daemon::new(rt.alloc(), &cfg)?;
-    for (at, op, found) in [
-        (1, Op::Load, 2),
-        (0, Op::Load, 63),
-        (1, Op::Load, 2),
-        (0, Op::Load, 64),
-        (8, Op::Or(8), 263),
-        (11, Op::Load, 17_179_869_196),
-        (16, Op::Load, 4),
-        (16, Op::Exchange { old: 4, new: 1028 }, 4),
-        (18, Op::Load, 5),
-        (18, Op::Exchange { old: 5, new: 1285 }, 5),
-        (4, Op::Load, 0),
-        (2, Op::Load, 1),
-        (5, Op::Or(1), 0),
-        (18, Op::Load, 1285),
-        (2, Op::Load, 1),
-        (18, Op::Load, 1028),
-        (4, Op::Load, 0),
-        (11, Op::Store(21_474_836_492), 0),
-        (8, Op::Store(257), 0),
-        (9, Op::Or(8), 0),
-    ] {
-        assert_eq!(rt;
-            stepped(&mut daemon, &cfg, found),
-            (Some((at, op)), Went::More)
-        );
-    }
+    let operations = [
+        made(1, Op::Load, 2),
+        made(0, Op::Load, 63),
+        made(1, Op::Load, 2),
+        made(0, Op::Load, 64),
+        made(8, Op::Or(8), 263),
+        made(11, Op::Load, 17_179_869_196),
+        made(16, Op::Load, 4),
+        made(16, Op::Exchange { old: 4, new: 1028 }, 4),
+        made(18, Op::Load, 5),
+        made(18, Op::Exchange { old: 5, new: 1285 }, 5),
+        made(4, Op::Load, 0),
+        made(2, Op::Load, 1),
+        made(5, Op::Or(1), 0),
+        made(18, Op::Load, 1285),
+        made(2, Op::Load, 1),
+        made(18, Op::Load, 1028),
+        made(4, Op::Load, 0),
+        made(11, Op::Store(21_474_836_492), 0),
+        made(8, Op::Store(257), 0),
+        made(9, Op::Or(8), 0),
+    ];
+    assert!(rt; makes(&mut daemon, &cfg, &operations));
     let thaw = Change {
         actor: 3,
         page: 0,
@@ -186,26 +197,21 @@ fn a_frozen_page_is_thawed(rt: HostRuntime) -> Result<(), Fail> {
 fn pages_that_are_not_frozen_stay(rt: HostRuntime) -> Result<(), Fail> {
     let cfg = three_nodes(rt.alloc())?;
     let mut daemon = Daemon::new(rt.alloc(), &cfg)?;
-    for (at, op, found) in [
-        (1, Op::Load, 2),
-        (0, Op::Load, 64),
-        (8, Op::Or(8), 257),
-        (8, Op::Store(257), 0),
-        (9, Op::Or(8), 0),
-        (9, Op::Store(0), 0),
-        (10, Op::Or(8), 65_803),
-        (10, Op::Or(8), 65_795),
-        (10, Op::Store(65_795), 0),
-        (1, Op::Load, 1),
-        (0, Op::Load, 71),
-    ] {
-        assert_eq!(rt;
-            stepped(&mut daemon, &cfg, found),
-            (Some((at, op)), Went::More)
-        );
-    }
-    let last = stepped(&mut daemon, &cfg, 0);
-    assert_eq!(rt; last, (Some((1, Op::Load)), Went::Ended));
-    assert!(rt; daemon.is_over() && daemon.finish().is_empty());
+    let operations = [
+        made(1, Op::Load, 2),
+        made(0, Op::Load, 64),
+        made(8, Op::Or(8), 257),
+        made(8, Op::Store(257), 0),
+        made(9, Op::Or(8), 0),
+        made(9, Op::Store(0), 0),
+        made(10, Op::Or(8), 65_803),
+        made(10, Op::Or(8), 65_795),
+        made(10, Op::Store(65_795), 0),
+        made(1, Op::Load, 1),
+        made(0, Op::Load, 71),
+    ];
+    assert!(rt; makes(&mut daemon, &cfg, &operations));
+    assert!(rt; steps(&mut daemon, &cfg, &made(1, Op::Load, 0), Went::Ended));
+    assert!(rt; daemon.is_over() && daemon.journal().is_empty());
     Ok(())
 }

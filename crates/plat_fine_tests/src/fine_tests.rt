@@ -11,7 +11,6 @@ use plat_base::{
 use plat_fine::*;
 use plat_samples::{guest, two_nodes};
 use std::alloc::Global;
-use std::process::Abort;
 use std::test::Fail;
 
 // ---- machines
@@ -49,14 +48,45 @@ const STORE: Instr = Instr::Store {
 
 // ---- events
 
-/// So many rounds of events of these actors, none of which has ended when it comes.
-fn rounds(rt: &impl Abort, fine: &mut Fine, count: u32, actors: &[u32]) {
+/// Events of these actors, and whether none of them had ended when it came.
+fn events(fine: &mut Fine, actors: &[u32]) -> bool {
+    for actor in actors {
+        if !fine.live(*actor) {
+            return false;
+        }
+        fine.event(*actor);
+    }
+    true
+}
+
+/// So many rounds of events of these actors, and whether none of them had ended when it came.
+fn rounds(fine: &mut Fine, count: u32, actors: &[u32]) -> bool {
     for _ in 0..count {
-        for actor in actors {
-            assert!(rt; fine.live(*actor));
-            fine.event(*actor);
+        if !events(fine, actors) {
+            return false;
         }
     }
+    true
+}
+
+/// Whether the words begin so, and the others are 0.
+fn begin(words: &[u64], first: &[u64]) -> bool {
+    match words.strip_prefix(first) {
+        Some(rest) => rest.iter().all(|word| *word == 0),
+        None => false,
+    }
+}
+
+/// Whether a run is over, with these first words, these items, and these ends.
+fn is_over(fine: &Fine, words: &[u64], items: &[Item], ends: &[Ended]) -> bool {
+    let live = fine.live(0) || fine.live(1) || fine.live(2);
+    !live && begin(fine.words(), words) && fine.history() == items && fine.ends() == ends
+}
+
+/// Whether a run hands out these items and ends.
+fn hands_out(fine: Fine, items: &[Item], ends: &[Ended]) -> bool {
+    let finished = fine.finish();
+    finished.items.as_slice() == items && finished.ends.as_slice() == ends
 }
 
 // ---- items of page 0, all of whose copies are frames of number 0
@@ -213,27 +243,17 @@ fn halted(turns: u32) -> Ended {
 fn two_guests_switch_and_end(rt: HostRuntime) -> Result<(), Fail> {
     let code = [Instr::Switch(3)];
     let mut fine = run(rt.alloc(), PolicyKind::Place, 0, &code, &code)?;
-    assert_eq!(rt; fine.config().nodes, 2);
-    rounds(&rt, &mut fine, 3, &[0]);
-    rounds(&rt, &mut fine, 6, &[1]);
-    assert_eq!(rt;
-        fine.words(),
-        [
-            3, 2, 4, 0, 0, 0, 0, 0, 0, 15, 15, 0, 0, 0, 0, 0, 0, 0, 0, 0, 0, 0, 0, 0, 0, 0, 0, 0,
-            0, 0, 0, 0, 0, 0, 0, 0, 0, 0, 0, 0, 0, 0, 0,
-        ]
-        .as_slice()
-    );
-    rounds(&rt, &mut fine, 4, &[0]);
-    rounds(&rt, &mut fine, 1, &[1]);
-    assert!(rt; !fine.live(0) && !fine.live(1) && !fine.live(2));
-    assert_eq!(rt; fine.ends(), [halted(2), halted(2)].as_slice());
+    assert!(rt; rounds(&mut fine, 3, &[0]) && rounds(&mut fine, 6, &[1]));
+    let halfway = [3, 2, 4, 0, 0, 0, 0, 0, 0, 15, 15];
+    assert!(rt; fine.config().nodes == 2 && begin(fine.words(), &halfway));
+    assert!(rt; rounds(&mut fine, 4, &[0]) && rounds(&mut fine, 1, &[1]));
+    let words = [4, 0, 0, 0, 0, 0, 0, 0, 0, 15, 15];
     let items = [
         Item::Switch(Switch { actor: 0, space: 3 }),
         Item::Switch(Switch { actor: 1, space: 3 }),
     ];
-    assert_eq!(rt; fine.history(), items.as_slice());
-    assert_eq!(rt; fine.finish().items.as_slice(), items.as_slice());
+    assert!(rt; is_over(&fine, &words, &items, &[halted(2), halted(2)]));
+    assert!(rt; hands_out(fine, &items, &[halted(2), halted(2)]));
     Ok(())
 }
 
@@ -248,20 +268,20 @@ fn one_fills_and_one_waits(rt: HostRuntime) -> Result<(), Fail> {
     let first = [LOAD, Instr::Halt];
     let second = [LOAD, Instr::Print(1), Instr::Halt];
     let mut fine = run(rt.alloc(), PolicyKind::Place, 9, &first, &second)?;
-    rounds(&rt, &mut fine, 1, &AT_ONCE);
-    assert!(rt; !fine.live(0) && !fine.live(1));
-    assert_eq!(rt;
-        fine.words(),
-        [
-            5, 0, 0, 0, 0, 0, 513, 8589934592, 3, 15, 14, 0, 0, 0, 0, 0, 0, 0, 0, 0, 0, 0, 0, 0, 0,
-            0, 0, 9, 0, 0, 0, 0, 0, 0, 0, 0, 0, 0, 0, 0, 0, 0, 0,
-        ]
-        .as_slice()
-    );
-    assert_eq!(rt; fine.history(), shared().as_slice());
-    assert_eq!(rt; fine.ends(), [halted(2), halted(3)].as_slice());
+    assert!(rt; events(&mut fine, &AT_ONCE));
+    let words = [
+        5, 0, 0, 0, 0, 0, 513, 8589934592, 3, 15, 14, 0, 0, 0, 0, 0, 0, 0, 0, 0, 0, 0, 0, 0, 0, 0,
+        0, 9,
+    ];
+    assert!(rt; is_over(&fine, &words, &shared(), &[halted(2), halted(3)]));
     Ok(())
 }
+
+/// A word of value 0 that was written three times.
+const THIRD: u64 = 12884901888;
+
+/// A word of value 0 that was written five times.
+const FIFTH: u64 = 21474836480;
 
 #[test]
 fn a_page_moves_beside_the_daemon(rt: HostRuntime) -> Result<(), Fail> {
@@ -269,60 +289,14 @@ fn a_page_moves_beside_the_daemon(rt: HostRuntime) -> Result<(), Fail> {
     let second = [STORE, STORE, Instr::Halt];
     let policy = PolicyKind::Platinum { t1: 10, t2: 64 };
     let mut fine = run(rt.alloc(), policy, 0, &first, &second)?;
-    rounds(&rt, &mut fine, 28, &[0, 1, 2]);
-    rounds(&rt, &mut fine, 1, &[0]);
-    rounds(&rt, &mut fine, 21, &[1, 2]);
-    assert!(rt; !fine.live(0) && !fine.live(1) && !fine.live(2));
-    assert_eq!(rt;
-        fine.words(),
-        [
-            7,
-            0,
-            0,
-            0,
-            0,
-            0,
-            515,
-            8589934595,
-            2,
-            15,
-            14,
-            12884901888,
-            0,
-            0,
-            0,
-            0,
-            0,
-            0,
-            0,
-            0,
-            0,
-            0,
-            0,
-            0,
-            0,
-            0,
-            0,
-            21474836480,
-            0,
-            0,
-            0,
-            0,
-            0,
-            0,
-            0,
-            0,
-            0,
-            0,
-            0,
-            0,
-            0,
-            0,
-            0,
-        ]
-        .as_slice()
-    );
-    assert_eq!(rt; fine.history(), moved().as_slice());
-    assert_eq!(rt; fine.ends(), [halted(4), halted(3)].as_slice());
+    let made = rounds(&mut fine, 28, &[0, 1, 2])
+        && events(&mut fine, &[0])
+        && rounds(&mut fine, 21, &[1, 2]);
+    assert!(rt; made);
+    let words = [
+        7, 0, 0, 0, 0, 0, 515, 8589934595, 2, 15, 14, THIRD, 0, 0, 0, 0, 0, 0, 0, 0, 0, 0, 0, 0, 0,
+        0, 0, FIFTH,
+    ];
+    assert!(rt; is_over(&fine, &words, &moved(), &[halted(4), halted(3)]));
     Ok(())
 }

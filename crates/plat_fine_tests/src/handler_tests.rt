@@ -61,6 +61,21 @@ fn called(handler: &mut Handler, cfg: &Config, old: u64) -> (Ask, Own)
     }
 }
 
+/// Whether the handler asks these in turn, where each that is an operation finds what stands before it, and takes nothing of the
+/// actor's own translations.
+fn asks(handler: &mut Handler, cfg: &Config, course: &[(u64, Ask)]) -> bool
+    requires { HandlesOn (machine cfg.now) handler.old }
+    ensures { HandlesOn (machine cfg.now) handler.new }
+{
+    for step in course {
+        let (ask, own) = called(handler, cfg, step.0);
+        if ask != step.1 || own != Own::Nothing {
+            return false;
+        }
+    }
+    true
+}
+
 fn word(at: usize, op: Op) -> Ask {
     Ask::Word { at, op }
 }
@@ -102,28 +117,34 @@ fn write() -> Fault
     }
 }
 
+/// Whether the handler has installed the translation of the grant, as it stands behind the page's first change.
+fn has_installed(handler: &Handler, cfg: &Config) -> bool
+    requires { HandlesOn (machine cfg.now) handler.now }
+{
+    match handler.installed(cfg) {
+        Some(it) => it.grant == write_grant() && it.seq == 0 && !it.restricted,
+        None => false,
+    }
+}
+
 #[test]
 fn an_empty_page_is_filled(rt: HostRuntime) -> Result<(), Fail> {
     let cfg = one_node(rt.alloc())?;
     let mut handler = Handler::start(&cfg, 0, write(), 2);
-    for (old, at, op) in [
-        (0, 4, Op::Or(8)),
-        (0, 5, Op::Load),
-        (1, 7, Op::Load),
-        (1, 7, Op::Exchange { old: 1, new: 0 }),
-        (0, 8, Op::Store(0)),
-        (0, 9, Op::Store(0)),
-        (0, 10, Op::Store(0)),
-        (0, 11, Op::Store(0)),
-        (0, 5, Op::Store(4_294_967_296)),
-        (0, 6, Op::Or(1)),
-        (0, 4, Op::Store(259)),
-    ] {
-        assert_eq!(rt;
-            called(&mut handler, &cfg, old),
-            (word(at, op), Own::Nothing)
-        );
-    }
+    let course = [
+        (0, word(4, Op::Or(8))),
+        (0, word(5, Op::Load)),
+        (1, word(7, Op::Load)),
+        (1, word(7, Op::Exchange { old: 1, new: 0 })),
+        (0, word(8, Op::Store(0))),
+        (0, word(9, Op::Store(0))),
+        (0, word(10, Op::Store(0))),
+        (0, word(11, Op::Store(0))),
+        (0, word(5, Op::Store(4_294_967_296))),
+        (0, word(6, Op::Or(1))),
+        (0, word(4, Op::Store(259))),
+    ];
+    assert!(rt; asks(&mut handler, &cfg, &course));
     let before = Dir {
         state: State::Empty,
         frozen: false,
@@ -141,11 +162,7 @@ fn an_empty_page_is_filled(rt: HostRuntime) -> Result<(), Fail> {
         after: single(State::Modified, 0),
         granted: Some(write_grant()),
     };
-    assert_eq!(rt; handler.next(&cfg), Ask::Granted(change));
-    let installed = handler.installed(&cfg);
-    assert!(rt;
-        installed.is_some_and(|it| it.grant == write_grant() && it.seq == 0 && !it.restricted)
-    );
+    assert!(rt; handler.next(&cfg) == Ask::Granted(change) && has_installed(&handler, &cfg));
     Ok(())
 }
 
@@ -153,7 +170,7 @@ fn an_empty_page_is_filled(rt: HostRuntime) -> Result<(), Fail> {
 fn a_page_migrates_though_its_target_is_elsewhere(rt: HostRuntime) -> Result<(), Fail> {
     let cfg = two_nodes(rt.alloc())?;
     let mut handler = Handler::start(&cfg, 0, write(), 3);
-    for (old, ask) in [
+    let course = [
         (521, word(6, Op::Or(8))),
         (0, Ask::Poll),
         (513, word(6, Op::Or(8))),
@@ -175,9 +192,8 @@ fn a_page_migrates_though_its_target_is_elsewhere(rt: HostRuntime) -> Result<(),
         (0, word(7, Op::Store(8_589_934_596))),
         (0, word(8, Op::Or(1))),
         (0, word(6, Op::Store(259))),
-    ] {
-        assert_eq!(rt; called(&mut handler, &cfg, old), (ask, Own::Nothing));
-    }
+    ];
+    assert!(rt; asks(&mut handler, &cfg, &course));
     let change = Change {
         actor: 0,
         page: 0,

@@ -1,14 +1,17 @@
 //! Three guests, against the operations of their runs, which were worked out by hand: one without an access, one whose store
 //! finds its page empty, and one that stores into a page and loads from another.
-ghost use Rattle.std.specs.Prelude.{◌≡◌, IfOk, IsTrue};
+ghost use Rattle.std.specs.Prelude.{◌≡◌, false, IfOk, IsTrue, length};
 ghost use Rattle.plat_base.specs.Canon.{is_short};
 ghost use Rattle.plat_base.specs.Machine.{is_machine, program_seen};
 ghost use Rattle.plat_base.specs.Seen.{machine};
+ghost use Rattle.plat_events.specs.Places.{word_count};
+ghost use Rattle.plat_events.specs.Privates.{is_over};
+ghost use Rattle.plat_proc.specs.Fits.{Fits};
 ghost use Rattle.plat_fine_tests.specs.ProcTried.{buffering_guest, store_buffering, tried};
 
 use plat_base::{
-    Access, Action, Cause, Change, Config, Copies, Dir, End, Frame, Grant, GuestText, Instr, Item,
-    Kind, Op, OutOfMemory, PolicyKind, Removed, Right, State, Switch,
+    Access, Action, Cause, Change, Config, Copies, Dir, End, Ended, Frame, Grant, GuestText, Instr,
+    Item, Kind, Op, OutOfMemory, PolicyKind, Removed, Right, State, Switch,
 };
 use plat_ports::{Made, RecordPort};
 use plat_proc::{Proc, Stepped};
@@ -56,17 +59,61 @@ fn made(at: usize, op: Op, found: u64) -> Made {
     Made { at, op, found }
 }
 
+/// What a processor leaves that ran alone and halted: its operations, its turns and its items, and the first words.
+#[derive(Clone, Copy, Debug)]
+struct Left<'a> {
+    operations: &'a [Made],
+    turns: u32,
+    items: &'a [Item],
+    words: &'a [u64],
+}
+
+/// Whether the processor halts with its operation of this number, and not before.
+fn halts_with(proc: &mut Proc, cfg: &Config, port: &mut RecordPort, operations: usize) -> bool
+    requires live { is_over proc.old.state.place ≡ false }
+    requires fits { Fits (machine cfg.now) proc.old }
+    requires words { length port.old.words ≡ word_count (machine cfg.now) }
+{
+    for _ in 1..operations {
+        if proc.step(cfg, port) != Stepped::More {
+            return false;
+        }
+    }
+    proc.step(cfg, port) == Stepped::Ended(End::Halted)
+}
+
+/// Whether a processor has ended so, with these items.
+fn has_left(proc: Proc, left: Left<'_>) -> bool {
+    let ended = Ended {
+        end: End::Halted,
+        turns: left.turns,
+    };
+    proc.is_over()
+        && proc.ended() == ended
+        && proc.turns() == left.turns
+        && proc.journal() == left.items
+        && proc.finish().as_slice() == left.items
+}
+
+/// Whether processor 0 leaves this, where it runs alone.
+fn leaves(alloc: Global, cfg: &Config, left: Left<'_>) -> Result<bool, OutOfMemory> {
+    let mut port = RecordPort::new(alloc, cfg, left.operations.len())?;
+    let mut proc = Proc::new(alloc, cfg, 0)?;
+    let fresh = proc.at_turn();
+    let halts = halts_with(&mut proc, cfg, &mut port, left.operations.len());
+    Ok(
+        fresh
+            && halts
+            && port.made() == left.operations
+            && port.words().strip_prefix(left.words).is_some()
+            && has_left(proc, left),
+    )
+}
+
 #[test]
 fn a_guest_switches_prints_and_halts(rt: HostRuntime) -> Result<(), Fail> {
     let cfg = one_node(rt.alloc(), &SWITCHING)?;
-    let mut port = RecordPort::new(rt.alloc(), &cfg, 10)?;
-    let mut proc = Proc::new(rt.alloc(), &cfg, 0)?;
-    assert!(rt; proc.at_turn());
-    for _ in 0..9 {
-        assert_eq!(rt; proc.step(&cfg, &mut port), Stepped::More);
-    }
-    assert_eq!(rt; proc.step(&cfg, &mut port), Stepped::Ended(End::Halted));
-    let events = [
+    let operations = [
         made(3, Op::Swap(0), 0),
         made(0, Op::Add(1), 0),
         made(2, Op::Swap(1), 1),
@@ -78,16 +125,15 @@ fn a_guest_switches_prints_and_halts(rt: HostRuntime) -> Result<(), Fail> {
         made(2, Op::Swap(0), 1),
         made(1, Op::Sub(1), 1),
     ];
-    assert_eq!(rt; port.made(), events.as_slice());
-    assert_eq!(rt;
-        port.words(),
-        [3, 0, 0, 0, 0, 0, 0, 1, 0, 0, 0, 0].as_slice()
-    );
-    assert_eq!(rt; proc.turns(), 3);
-    assert!(rt; proc.is_over() && proc.ended().end == End::Halted);
-    let item = Item::Switch(Switch { actor: 0, space: 0 });
-    assert_eq!(rt; proc.journal(), [item].as_slice());
-    assert_eq!(rt; proc.finish().as_slice(), [item].as_slice());
+    let items = [Item::Switch(Switch { actor: 0, space: 0 })];
+    let words = [3, 0, 0, 0, 0, 0, 0, 1, 0, 0, 0, 0];
+    let left = Left {
+        operations: &operations,
+        turns: 3,
+        items: &items,
+        words: &words,
+    };
+    assert!(rt; leaves(rt.alloc(), &cfg, left)?);
     Ok(())
 }
 
@@ -150,18 +196,12 @@ const STORED: u64 = 4294967301;
 #[test]
 fn a_store_fills_its_page_and_a_load_finds_it(rt: HostRuntime) -> Result<(), Fail> {
     let cfg = one_node(rt.alloc(), &STORING)?;
-    let mut port = RecordPort::new(rt.alloc(), &cfg, 26)?;
-    let mut proc = Proc::new(rt.alloc(), &cfg, 0)?;
-    for _ in 0..25 {
-        assert_eq!(rt; proc.step(&cfg, &mut port), Stepped::More);
-    }
-    assert_eq!(rt; proc.step(&cfg, &mut port), Stepped::Ended(End::Halted));
     let taken = Op::Exchange { old: 1, new: 0 };
     let written = Op::Exchange {
         old: 0,
         new: STORED,
     };
-    let events = [
+    let operations = [
         made(3, Op::Swap(0), 0),
         made(0, Op::Add(1), 0),
         made(3, Op::Swap(0), 0),
@@ -189,17 +229,19 @@ fn a_store_fills_its_page_and_a_load_finds_it(rt: HostRuntime) -> Result<(), Fai
         made(2, Op::Swap(0), 1),
         made(1, Op::Sub(1), 1),
     ];
-    assert_eq!(rt; port.made(), events.as_slice());
-    assert_eq!(rt;
-        port.words(),
-        [5, 0, 0, 0, 259, 4294967296, 1, 0, STORED, 0, 0, 0].as_slice()
-    );
     let items = [
         Item::Change(filled()),
         Item::Access(access(Kind::Store, 0)),
         Item::Access(access(Kind::Load, 5)),
     ];
-    assert_eq!(rt; proc.journal(), items.as_slice());
+    let words = [5, 0, 0, 0, 259, 4294967296, 1, 0, STORED, 0, 0, 0];
+    let left = Left {
+        operations: &operations,
+        turns: 5,
+        items: &items,
+        words: &words,
+    };
+    assert!(rt; leaves(rt.alloc(), &cfg, left)?);
     Ok(())
 }
 
@@ -329,14 +371,6 @@ fn loaded() -> Access {
 #[test]
 fn a_store_and_a_load_fill_a_page_each(rt: HostRuntime) -> Result<(), Fail> {
     let cfg = store_buffering(rt.alloc())?;
-    let mut port = RecordPort::new(rt.alloc(), &cfg, 37)?;
-    let mut proc = Proc::new(rt.alloc(), &cfg, 0)?;
-    for _ in 0..36 {
-        assert_eq!(rt; proc.step(&cfg, &mut port), Stepped::More);
-    }
-    assert_eq!(rt; proc.step(&cfg, &mut port), Stepped::Ended(End::Halted));
-    assert_eq!(rt; port.made(), buffered().as_slice());
-    assert_eq!(rt; proc.turns(), 5);
     let stored = Access {
         new: 1,
         ..access(Kind::Store, 0)
@@ -347,6 +381,16 @@ fn a_store_and_a_load_fill_a_page_each(rt: HostRuntime) -> Result<(), Fail> {
         Item::Change(read()),
         Item::Access(loaded()),
     ];
-    assert_eq!(rt; proc.journal(), items.as_slice());
+    let operations = buffered();
+    let words = [
+        5, 1, 0, 1, 0, 0, 259, 65793, 4294967296, 4294967296, 1, 1, 12, 15, ONE, 0, 0, 0, 0,
+    ];
+    let left = Left {
+        operations: &operations,
+        turns: 5,
+        items: &items,
+        words: &words,
+    };
+    assert!(rt; leaves(rt.alloc(), &cfg, left)?);
     Ok(())
 }

@@ -40,6 +40,21 @@ fn called(shoot: &mut Shoot, cfg: &Config, old: u64) -> (Need, Own)
     (need, own)
 }
 
+/// Whether the shootdown needs these in turn, where each that is an operation finds what stands before it, and takes what stands
+/// behind it of the actor's own translations.
+fn needs(shoot: &mut Shoot, cfg: &Config, course: &[(u64, Need, Own)]) -> bool
+    requires { ShootsOn (machine cfg.now) shoot.old }
+    ensures { ShootsOn (machine cfg.now) shoot.new }
+{
+    for step in course {
+        let (need, own) = called(shoot, cfg, step.0);
+        if need != step.1 || own != step.2 {
+            return false;
+        }
+    }
+    true
+}
+
 fn word(at: usize, op: Op) -> Need {
     Need::Word { at, op }
 }
@@ -49,7 +64,7 @@ fn a_target_is_interrupted_and_waited_for(rt: HostRuntime) -> Result<(), Fail> {
     let cfg = two_nodes(rt.alloc())?;
     let mut shoot = Shoot::start(&cfg, 0, 0, Removed::All);
     let post = Op::Exchange { old: 3, new: 514 };
-    for (old, need, own) in [
+    let course = [
         (3, word(8, Op::Load), Own::Nothing),
         (3, word(8, post), Own::Dropped(0)),
         (1, word(3, Op::Load), Own::Nothing),
@@ -59,9 +74,8 @@ fn a_target_is_interrupted_and_waited_for(rt: HostRuntime) -> Result<(), Fail> {
         (0, Need::Poll, Own::Nothing),
         (0, word(8, Op::Load), Own::Nothing),
         (0, Need::Finished, Own::Nothing),
-    ] {
-        assert_eq!(rt; called(&mut shoot, &cfg, old), (need, own));
-    }
+    ];
+    assert!(rt; needs(&mut shoot, &cfg, &course));
     Ok(())
 }
 
@@ -69,32 +83,26 @@ fn a_target_is_interrupted_and_waited_for(rt: HostRuntime) -> Result<(), Fail> {
 fn the_daemon_lowers_nothing_of_its_own_and_has_no_poll(rt: HostRuntime) -> Result<(), Fail> {
     let cfg = two_nodes(rt.alloc())?;
     let mut shoot = Shoot::start(&cfg, 2, 0, Removed::Writes);
-    let post = Op::Exchange {
+    let first = Op::Exchange {
+        old: 3,
+        new: 196_611,
+    };
+    let second = Op::Exchange {
         old: 2,
         new: 131_074,
     };
-    for (old, need) in [
-        (3, word(8, Op::Load)),
-        (
-            2,
-            word(
-                8,
-                Op::Exchange {
-                    old: 3,
-                    new: 196_611,
-                },
-            ),
-        ),
-        (2, word(8, post)),
-        (1, word(3, Op::Load)),
-        (0, word(5, Op::Or(1))),
-        (131_074, word(8, Op::Load)),
-        (1, word(3, Op::Load)),
-        (131_074, word(8, Op::Load)),
-        (0, word(3, Op::Load)),
-        (0, Need::Finished),
-    ] {
-        assert_eq!(rt; called(&mut shoot, &cfg, old), (need, Own::Nothing));
-    }
+    let course = [
+        (3, word(8, Op::Load), Own::Nothing),
+        (2, word(8, first), Own::Nothing),
+        (2, word(8, second), Own::Nothing),
+        (1, word(3, Op::Load), Own::Nothing),
+        (0, word(5, Op::Or(1)), Own::Nothing),
+        (131_074, word(8, Op::Load), Own::Nothing),
+        (1, word(3, Op::Load), Own::Nothing),
+        (131_074, word(8, Op::Load), Own::Nothing),
+        (0, word(3, Op::Load), Own::Nothing),
+        (0, Need::Finished, Own::Nothing),
+    ];
+    assert!(rt; needs(&mut shoot, &cfg, &course));
     Ok(())
 }

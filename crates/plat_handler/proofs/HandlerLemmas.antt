@@ -16,6 +16,7 @@ use Rattle.plat_handler.specs.Stages.{Runs, stage_after}
 use Rattle.plat_handler.specs.Phases.{answer_of, session_seen, course_seen, phase_seen, decided, shooting_by, shooting_seen, GoesOn}
 use Rattle.plat_handler.specs.Phases.{IsUnderWay}
 use Rattle.plat_handler.specs.Fits.{StageFits, StageShoots}
+use Rattle.plat_handler.specs.Locks.{IsTaken}
 use Rattle.plat_handler.specs.Decided.{Decides}
 use Rattle.plat_handler.specs.Settled.{IsOf, IsShootOf, own_of_shot}
 use Rattle.plat_handler.specs.HandlerSeen.{HandlerSeen, HandlesOn, ask_of, is_word_asked, own_of}
@@ -37,11 +38,12 @@ pub HandlesOn-after :
     (m : Machine) (before : HandlerSeen) (n : ℕ) (after : HandlerSeen) → m.frames ≤ 64 → HandlesOn m before →
     after.actor ≡ before.actor → after.now ≡ before.now →
     after.stage ≡ stage_after m (answer_of m) before.actor before.now n before.stage →
-    StageShoots m after.actor after.now after.shoot after.stage → HandlesOn m after
-HandlesOn-after m before n after most h a t e s = record {
+    StageShoots m after.actor after.now after.shoot after.stage → IsTaken m after.tried → HandlesOn m after
+HandlesOn-after m before n after most h a t e s k = record {
   now = rw t h.now;
   fits = rw (a, t, e) (stage_after-fits m before.actor before.now n most before.stage h.fits);
   shoots = s;
+  tried = k;
 }
 
 module _ (m : Machine) (lock : Lock) (c : RustCourse) where

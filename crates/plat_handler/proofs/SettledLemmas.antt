@@ -3,6 +3,8 @@ use Rattle.std.proofs.Common.{◌≡◌, ◌≢◌, ℕ, Bool, true, false, if�
 use Rattle.std.specs.Prelude.{IsTrue, nat_lt}
 use Rattle.plat_base.specs.Machine.{Machine}
 use Rattle.plat_base.specs.Pages.{entries_of_page}
+use Rattle.plat_base.specs.declared.words.Op.{Op}
+use Rattle.plat_base.specs.declared.words.WordName.{WordName}
 use Rattle.plat_events.specs.Events.{is_followed}
 use Rattle.plat_events.specs.Shootdowns.{Shot, Posting, Asking, Shoot, Makes, Polls, Done, targets, shoot_from, shot_next, shot_after}
 use Rattle.plat_events.specs.Sessions.{Phase, Returning, Shooting, Session, with_phase, with_shoot, shot_over, session_next, phase_after}
@@ -257,3 +259,13 @@ module _ (m : Machine) (lock : Lock) (posts : List ℕ) (n : ℕ) where
   next-posts (phase.Storing c) = refl
   next-posts (phase.Granting c) = refl
   next-posts (phase.Unlocking c) = refl
+
+  -- an operation that is not followed leaves the stage as it is
+  pub stage-stays :
+      (p : RustPhase) →
+      is_followed m (Some (session_next m (answer_of m) lock.actor lock.tick (session_seen lock Returning) (phase_seen [] p))) n ≡ false →
+      Runs (session_seen lock (phase_seen posts p))
+      ≡ stage_after m (answer_of m) lock.actor lock.tick n (Runs (session_seen lock (phase_seen posts p)))
+  stage-stays p e =
+      let f = ap (λ (x : WordName × Op). is_followed m (Some x) n) (sym (next-posts p)) ∙ e in
+      rw f refl

@@ -6,6 +6,7 @@ use Rattle.plat_base.specs.declared.items.Removed.TheVariants as removed
 use Rattle.plat_base.specs.declared.words.Op.{Op}
 use Rattle.plat_base.specs.declared.words.WordName.{WordName}
 use Rattle.plat_events.specs.Places.{place_of}
+use Rattle.plat_events.specs.Words.{lock_place}
 use Rattle.plat_base.specs.declared.items.Translation.{Translation}
 use Rattle.plat_events.specs.Sessions.{Fault, Phase, Stamping, Seeking, Taking, Returning, Shooting, Filling, Reading, Copying, Giving}
 use Rattle.plat_events.specs.Sessions.{Storing, Granting, Unlocking, Session, decision_of, change_made}
@@ -17,21 +18,25 @@ use Rattle.plat_handler.specs.Stages.{Stage, Locks, Relocks, Runs, Rewaits, Retu
 use Rattle.plat_handler.specs.Stages.{installed_by}
 use Rattle.plat_handler.specs.Phases.{answer_of}
 use Rattle.plat_handler.specs.Fits.{StageFits, StageShoots}
+use Rattle.plat_handler.specs.Locks.{IsTaken}
 use Rattle.plat_handler.specs.declared.asks.Ask.{Ask}
 use Rattle.plat_handler.specs.declared.asks.Ask.TheVariants as ask
 
--- now is the tick of the actor's turn or pass, and shoot its shootdown, as it runs or ran
+-- now is the tick of the actor's turn or pass, shoot its shootdown, as it runs or ran, and tried the last word of a locked page
+-- that its lock tested
 pub record HandlerSeen : Type 0 where
   pub actor : ℕ
   pub now : ℕ
   pub stage : Stage
   pub shoot : Option ShootSeen
+  pub tried : ℕ
 
 -- it is one of the machine
 pub record HandlesOn (m : Machine) (h : HandlerSeen) : Type 0 where
   pub now : h.now < 2 ^ 32 - 1
   pub fits : StageFits m h.actor h.now h.stage
   pub shoots : StageShoots m h.actor h.now h.shoot h.stage
+  pub tried : IsTaken m h.tried
 
 -- ---- what it asks
 
@@ -114,4 +119,5 @@ abbrev pub installed : Machine → HandlerSeen → Option Translation
 installed m h = installed_by m (answer_of m) h.actor h.now h.stage
 
 abbrev pub handler_started : (actor now : ℕ) → Fault → HandlerSeen
-handler_started actor now fault = record { actor = actor; now = now; stage = Locks fault; shoot = None }
+handler_started actor now fault =
+    record { actor = actor; now = now; stage = Locks fault; shoot = None; tried = 2 ^ lock_place }

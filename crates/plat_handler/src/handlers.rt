@@ -30,6 +30,8 @@ pub struct Handler {
     lock: Lock,
     shoot: Option<Shoot>,
     stage: Stage,
+    /// A word of a locked page: the last one that a try of the lock tested.
+    tried: u64,
 }
 
 impl Model for Handler {
@@ -43,6 +45,7 @@ impl Model for Handler {
       now = it.lock.tick;
       stage = stage_seen it.lock it.shoot it.stage;
       shoot = it.shoot;
+      tried = it.tried;
     } };
 
     ghost invariant = { λ it. ShootsWell it.shoot it.stage };
@@ -72,6 +75,7 @@ impl Handler {
             lock,
             shoot: None,
             stage: Stage::Locking,
+            tried: LOCK,
         }
     }
 
@@ -139,7 +143,7 @@ impl Handler {
     {
         match self.stage {
             Stage::Locking => {
-                self.stage = locked(cfg, &mut self.lock, old);
+                self.stage = locked(cfg, &mut self.lock, &mut self.tried, old);
                 Own::Nothing
             }
             Stage::Running(phase) => {

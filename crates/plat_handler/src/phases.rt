@@ -67,6 +67,17 @@ pub enum Phase {
     Unlocking(Course),
 }
 
+/// What a try of the lock found.
+#[derive(Clone, Copy, Debug)]
+pub enum Found {
+    /// No word of a directory of the machine.
+    Nothing,
+    /// A page that is locked.
+    Taken,
+    /// A page that was not.
+    Free(Dir),
+}
+
 /// What follows an operation: the next one, or a shootdown.
 #[derive(Clone, Copy, Debug)]
 pub enum Then {

@@ -6,19 +6,49 @@ ghost use Rattle.plat_shoot.specs.ShootSeen.{ShootSeen};
 ghost use Rattle.plat_handler.specs.Decided.{Decides, RunsOn, RemovesSome};
 ghost use Rattle.plat_handler.specs.Courses.{operation_of, stage_told, Shoots};
 ghost use Rattle.plat_handler.specs.Phases.{session_seen, phase_seen, then_seen, stage_seen, posts_in, ShootsWell, fault_seen};
+ghost use Rattle.plat_handler.specs.Locks.{IsTaken, found_in};
 ghost use Rattle.plat_handler.specs.Stages.{Locks, Runs};
 ghost use Rattle.plat_handler.specs.Settled.{stage_with, IsOf, IsShootOf, EntersOn, ThenShoots, own_of_shot};
 
 use crate::courses::{after, shot_over};
-use crate::operations::operation;
-use crate::phases::{Course, Lock, Phase, Stage, Then};
-use plat_base::{Config, Dir};
+use crate::phases::{Course, Found, Lock, Phase, Stage, Then};
+use plat_base::{Config, Dir, WordName};
 use plat_policy::is_dir;
 use plat_shoot::{Own, Shoot};
 use plat_words::{DirWord, is_word};
 
+/// What a try of the lock found in a word. `tried` is the word of a locked page: the last one that was tested, so that a try
+/// which finds it again need not test it.
+fn found_in(cfg: &Config, tried: &mut u64, word: u64) -> Found
+    requires tried { IsTaken (machine cfg.now) tried.old }
+    ensures found { result ≡ found_in (machine cfg.now) word }
+    ensures tried { IsTaken (machine cfg.now) tried.new }
+{
+    if word == *tried {
+        return Found::Taken;
+    }
+    let Some(found) = DirWord::decode(word) else {
+        return Found::Nothing;
+    };
+    let dir = Dir {
+        state: found.state,
+        frozen: found.frozen,
+        copies: found.copies,
+    };
+    if !is_dir(cfg, &dir) {
+        return Found::Nothing;
+    }
+    if found.locked {
+        *tried = word;
+        return Found::Taken;
+    }
+    Found::Free(dir)
+}
+
 /// The lock found `old`: a set bit sends a processor to poll, and the daemon to lock again; else the session begins.
-pub fn locked(cfg: &Config, lock: &mut Lock, old: u64) -> Stage
+pub fn locked(cfg: &Config, lock: &mut Lock, tried: &mut u64, old: u64) -> Stage
+    requires tried { IsTaken (machine cfg.now) tried.old }
+    ensures tried { IsTaken (machine cfg.now) tried.new }
     ensures actor { lock.new.actor ≡ lock.old.actor }
     ensures tick { lock.new.tick ≡ lock.old.tick }
     ensures fault { lock.new.fault ≡ lock.old.fault }
@@ -27,29 +57,24 @@ pub fn locked(cfg: &Config, lock: &mut Lock, old: u64) -> Stage
     ensures stage { stage_seen lock.new None result
         ≡ stage_told (machine cfg.now) lock.old old (Locks (fault_seen lock.old.fault)) }
 {
-    let Some(found) = DirWord::decode(old) else {
-        return Stage::Locking;
-    };
-    let dir = Dir {
-        state: found.state,
-        frozen: found.frozen,
-        copies: found.copies,
-    };
-    if !is_dir(cfg, &dir) {
-        return Stage::Locking;
-    }
-    if found.locked {
-        return if lock.actor == cfg.nodes {
-            Stage::Locking
-        } else {
-            Stage::Relocking
-        };
-    }
-    lock.dir = dir;
-    if lock.actor == cfg.nodes && !found.frozen {
-        Stage::Running(Phase::Returning)
-    } else {
-        Stage::Running(Phase::Stamping)
+    match found_in(cfg, tried, old) {
+        Found::Nothing => Stage::Locking,
+        Found::Taken => {
+            if lock.actor == cfg.nodes {
+                Stage::Locking
+            } else {
+                Stage::Relocking
+            }
+        }
+        Found::Free(dir) => {
+            let frozen = dir.frozen;
+            lock.dir = dir;
+            if lock.actor == cfg.nodes && !frozen {
+                Stage::Running(Phase::Returning)
+            } else {
+                Stage::Running(Phase::Stamping)
+            }
+        }
     }
 }
 
@@ -101,7 +126,7 @@ pub fn ran(cfg: &Config, lock: &Lock, shoot: &mut Option<Shoot>, phase: Phase, o
         ≡ stage_told (machine cfg.now) lock.now old (stage_seen lock.now shoot.old (Stage.Running phase)) }
     ensures well { ShootsWell shoot.new result }
 {
-    if !is_followed(cfg, lock, phase, old) {
+    if !is_followed(cfg, phase, old) {
         return Stage::Running(phase);
     }
     match phase {
@@ -111,28 +136,28 @@ pub fn ran(cfg: &Config, lock: &Lock, shoot: &mut Option<Shoot>, phase: Phase, o
     }
 }
 
-/// Whether the operation of a phase tells a number that its word may be. A store tells nothing, and is always followed.
-fn is_followed(cfg: &Config, lock: &Lock, phase: Phase, old: u64) -> bool
-    requires fits { RunsOn (machine cfg.now) lock.now phase }
-    requires tick { lock.now.tick < 4294967295 }
-    ensures { result ≡ is_followed (machine cfg.now) (Some (operation_of (machine cfg.now) lock.now phase)) old }
+/// Whether the operation of a phase tells a number that its word may be, which is asked of the kind of the word alone. A store
+/// tells nothing, and is always followed.
+fn is_followed(cfg: &Config, phase: Phase, old: u64) -> bool
+    ensures { (lock : Lock)
+        → result ≡ is_followed (machine cfg.now) (Some (operation_of (machine cfg.now) lock phase)) old }
 {
-    match phase {
+    let name = match phase {
         Phase::Returning
         | Phase::Filling { .. }
         | Phase::Copying { .. }
         | Phase::Storing(_)
-        | Phase::Unlocking(_) => true,
-        Phase::Stamping
-        | Phase::Seeking { .. }
-        | Phase::Taking { .. }
-        | Phase::Reading { .. }
-        | Phase::Giving { .. }
-        | Phase::Granting(_) => {
-            let (name, _) = operation(cfg, lock, phase);
-            is_word(cfg, name, old)
-        }
-    }
+        | Phase::Unlocking(_) => return true,
+        Phase::Stamping => WordName::Stamp(0),
+        Phase::Seeking { .. } | Phase::Taking { .. } | Phase::Giving { .. } => WordName::Pool(0),
+        Phase::Reading { .. } => WordName::Memory {
+            module: 0,
+            number: 0,
+            word: 0,
+        },
+        Phase::Granting(_) => WordName::Cmap(0),
+    };
+    is_word(cfg, name, old)
 }
 
 /// The operation of the shootdown found `old`.

@@ -59,12 +59,11 @@ fn small(alloc: Global) -> Result<Config, OutOfMemory>
 #[test]
 fn list_keeps_items(rt: HostRuntime) -> Result<(), Fail> {
     let mut list = List::with_room(rt.alloc(), 1)?;
-    assert!(rt; list.is_empty());
+    let empty = list.is_empty();
     list.push(7);
     list.reserve(1)?;
     list.push(8);
-    assert_eq!(rt; list.as_slice(), [7, 8].as_slice());
-    assert_eq!(rt; list.len(), 2);
+    assert!(rt; empty && list.as_slice() == [7, 8].as_slice() && list.len() == 2);
     Ok(())
 }
 
@@ -106,16 +105,31 @@ fn verdicts_follow_the_window(rt: HostRuntime) {
     }
 }
 
-#[test]
-fn journals_keep_each_actors_list(rt: HostRuntime) -> Result<(), Fail> {
-    let cfg = small(rt.alloc())?;
-    let mut journals = Journals::new(rt.alloc(), &cfg)?;
-    let mut journal = List::with_room(rt.alloc(), 1)?;
+/// Whether the daemon's list is kept beside that of the processor.
+fn keep_one(alloc: Global) -> Result<bool, OutOfMemory> {
+    let cfg = small(alloc)?;
+    let mut journals = Journals::new(alloc, &cfg)?;
+    let mut journal = List::with_room(alloc, 1)?;
     journal.push(Item::Switch(Switch { actor: 1, space: 0 }));
     journals.put(1, journal);
-    assert_eq!(rt; journals.of(0).len(), 0);
-    assert_eq!(rt; journals.of(1).len(), 1);
+    Ok(journals.of(0).is_empty() && journals.of(1).len() == 1)
+}
+
+#[test]
+fn journals_keep_each_actors_list(rt: HostRuntime) -> Result<(), Fail> {
+    assert!(rt; keep_one(rt.alloc())?);
     Ok(())
+}
+
+/// Whether entries (1, 63, 5), (0, 2, 5) and (1, 0, 4) are found.
+fn are_found(entries: &Entries) -> bool {
+    entries.len() == 3
+        && entries.find(1, 63) == Some(0)
+        && entries.find(0, 63).is_none()
+        && entries.find(8, 0).is_none()
+        && entries.of_page(5) == [0, 1].as_slice()
+        && entries.of_page(63).is_empty()
+        && entries.of_space(1) == [0, 2].as_slice()
 }
 
 #[test]
@@ -125,13 +139,6 @@ fn entries_are_found_by_place_page_and_space(rt: HostRuntime) -> Result<(), Fail
     list.push(entry(1, 63, 5));
     list.push(entry(0, 2, 5));
     list.push(entry(1, 0, 4));
-    let entries = Entries::new(alloc, list)?;
-    assert_eq!(rt; entries.len(), 3);
-    assert_eq!(rt; entries.find(1, 63), Some(0));
-    assert_eq!(rt; entries.find(0, 63), None);
-    assert_eq!(rt; entries.find(8, 0), None);
-    assert_eq!(rt; entries.of_page(5), [0, 1].as_slice());
-    assert_eq!(rt; entries.of_page(63), [].as_slice());
-    assert_eq!(rt; entries.of_space(1), [0, 2].as_slice());
+    assert!(rt; are_found(&Entries::new(alloc, list)?));
     Ok(())
 }

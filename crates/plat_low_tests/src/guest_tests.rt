@@ -191,14 +191,20 @@ fn run(alloc: Global, cfg: &Config) -> Result<(Vec<u32>, Want), AllocError>
     Ok((prints, Want::Local))
 }
 
+// Whether the guest prints these, and wants this at last.
+fn runs_to(alloc: Global, cfg: &Config, prints: &[u32], want: Want) -> Result<bool, AllocError>
+    requires { cfg.now.nodes ≡ 1 }
+{
+    let (printed, last) = run(alloc, cfg)?;
+    Ok(printed.as_slice() == prints && last == want)
+}
+
 #[test]
 fn executes_each_instruction(rt: HostRuntime) -> Result<(), Fail> {
     let alloc = rt.alloc();
     let cfg = small_config(alloc, &EACH, 26, 29, 32)?;
-    let (prints, want) = run(alloc, &cfg)?;
-    let expected = [4_294_967_295, 6, 4_294_967_295, 1, 4, 6, 12, 12, 19, 77];
-    assert_eq!(rt; prints.as_slice(), expected.as_slice());
-    assert_eq!(rt; want, Want::Halted);
+    let prints = [4_294_967_295, 6, 4_294_967_295, 1, 4, 6, 12, 12, 19, 77];
+    assert!(rt; runs_to(alloc, &cfg, &prints, Want::Halted)?);
     Ok(())
 }
 
@@ -220,11 +226,8 @@ fn traps_without_an_entry(rt: HostRuntime) -> Result<(), Fail> {
         Instr::Halt,
     ];
     let cfg = small_config(alloc, &code, 0, 0, 0)?;
-    let (prints, want) = run(alloc, &cfg)?;
-    assert_eq!(rt; prints.len(), 1);
-    assert_eq!(rt; want, Want::Trap);
-    assert_eq!(rt; cfg.entry_at(1, 0), Some(1));
-    assert_eq!(rt; cfg.entry_at(1, 1), None);
+    assert!(rt; runs_to(alloc, &cfg, &[0], Want::Trap)?);
+    assert!(rt; cfg.entry_at(1, 0) == Some(1) && cfg.entry_at(1, 1).is_none());
     Ok(())
 }
 
@@ -233,12 +236,10 @@ fn halts_past_its_last_instruction(rt: HostRuntime) -> Result<(), Fail> {
     let alloc = rt.alloc();
     let cfg = small_config(alloc, &[Instr::Switch(2)], 1, 1, 1)?;
     let mut guest = Guest::new(&cfg, 0);
-    assert_eq!(rt; guest.space(), 0);
     let want = guest.next(&cfg);
     assert!(rt; want != Want::Halted && want != Want::Trap);
-    assert_eq!(rt; want, Want::Switch(2));
+    assert!(rt; guest.space() == 0 && want == Want::Switch(2));
     guest.after(&cfg, 0);
-    assert_eq!(rt; guest.space(), 2);
-    assert_eq!(rt; guest.next(&cfg), Want::Halted);
+    assert!(rt; guest.space() == 2 && guest.next(&cfg) == Want::Halted);
     Ok(())
 }

@@ -16,12 +16,15 @@ fn only(alloc: Global, call: u32) -> Result<List<u32>, OutOfMemory> {
     Ok(fails)
 }
 
+fn a_quiet_source_gives(alloc: Global, text: &[u8]) -> Result<bool, Fail> {
+    let mut source = QuietSource::new(alloc, text)?;
+    let whole = source.left() == text;
+    Ok(whole && read_all(alloc, &mut source, 7)?.as_slice() == text)
+}
+
 #[test]
 fn quiet_source_gives_all(rt: HostRuntime) -> Result<(), Fail> {
-    let mut source = QuietSource::new(rt.alloc(), b"nodes 2")?;
-    assert_eq!(rt; source.left(), b"nodes 2".as_slice());
-    let bytes = read_all(rt.alloc(), &mut source, 7)?;
-    assert_eq!(rt; bytes.as_slice(), b"nodes 2".as_slice());
+    assert!(rt; a_quiet_source_gives(rt.alloc(), b"nodes 2")?);
     Ok(())
 }
 
@@ -58,23 +61,34 @@ fn memory_sink_takes_all(rt: HostRuntime) -> Result<(), Fail> {
     Ok(())
 }
 
+fn a_line_breaks_off(alloc: Global) -> Result<bool, Fail> {
+    let mut sink = MemorySink::new(alloc, 9, only(alloc, 2)?)?;
+    let fails = write_line(&mut sink, &[Word::Text(b"init"), Word::Number(7)]) == Err(WriteFault);
+    Ok(fails && sink.bytes() == b"init".as_slice())
+}
+
 #[test]
 fn memory_sink_fails_in_mid_stream(rt: HostRuntime) -> Result<(), Fail> {
-    let mut sink = MemorySink::new(rt.alloc(), 9, only(rt.alloc(), 2)?)?;
-    let line = [Word::Text(b"init"), Word::Number(7)];
-    assert_eq!(rt; write_line(&mut sink, &line), Err(WriteFault));
-    assert_eq!(rt; sink.bytes(), b"init".as_slice());
+    assert!(rt; a_line_breaks_off(rt.alloc())?);
     Ok(())
+}
+
+fn a_full_quiet_sink_fails(alloc: Global) -> Result<bool, Fail> {
+    let mut sink = QuietSink::new(alloc, 4)?;
+    write_all(&mut sink, b"end\n")?;
+    Ok(sink.write(b"x") == Err(Failed))
+}
+
+fn a_full_memory_sink_fails(alloc: Global) -> Result<bool, Fail> {
+    let mut sink = MemorySink::new(alloc, 2, List::new(alloc))?;
+    let fails = write_all(&mut sink, b"end\n") == Err(WriteFault);
+    Ok(fails && sink.bytes() == b"en".as_slice())
 }
 
 #[test]
 fn full_sinks_fail(rt: HostRuntime) -> Result<(), Fail> {
-    let mut quiet = QuietSink::new(rt.alloc(), 4)?;
-    write_all(&mut quiet, b"end\n")?;
-    assert_eq!(rt; quiet.write(b"x"), Err(Failed));
-    let mut memory = MemorySink::new(rt.alloc(), 2, List::new(rt.alloc()))?;
-    assert_eq!(rt; write_all(&mut memory, b"end\n"), Err(WriteFault));
-    assert_eq!(rt; memory.bytes(), b"en".as_slice());
+    assert!(rt; a_full_quiet_sink_fails(rt.alloc())?);
+    assert!(rt; a_full_memory_sink_fails(rt.alloc())?);
     Ok(())
 }
 
@@ -134,17 +148,21 @@ fn std_reader_is_a_source(rt: HostRuntime) -> Result<(), Fail> {
     Ok(())
 }
 
-#[test]
-fn std_writer_is_a_sink(rt: HostRuntime) -> Result<(), Fail> {
-    let mut held = Vec::new(rt.alloc());
+fn a_writer_takes_all(alloc: Global) -> Result<bool, Fail> {
+    let mut held = Vec::new(alloc);
     let mut sink = StdSink::new(&mut held);
     write_all(&mut sink, b"pages ")?;
     write_all(&mut sink, b"1\n")?;
-    assert_eq!(rt; held.as_slice(), b"pages 1\n".as_slice());
+    Ok(held.as_slice() == b"pages 1\n".as_slice())
+}
+
+#[test]
+fn std_writer_is_a_sink(rt: HostRuntime) -> Result<(), Fail> {
+    assert!(rt; a_writer_takes_all(rt.alloc())?);
     let mut short = [0; 2];
     let mut full = StdSink::new(short.as_mut_slice());
-    assert_eq!(rt; write_all(&mut full, b"abc"), Err(WriteFault));
+    assert!(rt; write_all(&mut full, b"abc") == Err(WriteFault));
     let mut broken = StdSink::new(Broken);
-    assert_eq!(rt; broken.write(b"x"), Err(Failed));
+    assert!(rt; broken.write(b"x") == Err(Failed));
     Ok(())
 }

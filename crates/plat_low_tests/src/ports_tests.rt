@@ -29,17 +29,20 @@ fn one_node(alloc: Global) -> Result<Config, OutOfMemory> {
 fn each_operation_changes_one_word(rt: HostRuntime) -> Result<(), Fail> {
     let cfg = one_node(rt.alloc())?;
     let mut port = VecPort::new(rt.alloc(), &cfg)?;
-    assert_eq!(rt; port.words(), [0, 1, 3, 0, 0, 0, 1, 0, 0, 0, 0].as_slice());
-    assert_eq!(rt; port.apply(0, Op::Sub(1)), 0);
-    assert_eq!(rt; port.apply(0, Op::Add(3)), u64::MAX);
-    assert_eq!(rt; port.apply(2, Op::Store(9)), 0);
-    assert_eq!(rt; port.apply(3, Op::Or(6)), 0);
-    assert_eq!(rt; port.apply(3, Op::And(5)), 6);
-    assert_eq!(rt; port.apply(4, Op::Swap(7)), 0);
-    assert_eq!(rt; port.apply(4, Op::Exchange { old: 7, new: 8 }), 7);
-    assert_eq!(rt; port.apply(4, Op::Exchange { old: 7, new: 9 }), 8);
-    assert_eq!(rt; port.apply(1, Op::Load), 1);
-    assert_eq!(rt; port.words(), [2, 1, 9, 4, 8, 0, 1, 0, 0, 0, 0].as_slice());
+    assert!(rt; port.words() == [0, 1, 3, 0, 0, 0, 1, 0, 0, 0, 0].as_slice());
+    let found = [
+        port.apply(0, Op::Sub(1)),
+        port.apply(0, Op::Add(3)),
+        port.apply(2, Op::Store(9)),
+        port.apply(3, Op::Or(6)),
+        port.apply(3, Op::And(5)),
+        port.apply(4, Op::Swap(7)),
+        port.apply(4, Op::Exchange { old: 7, new: 8 }),
+        port.apply(4, Op::Exchange { old: 7, new: 9 }),
+        port.apply(1, Op::Load),
+    ];
+    assert!(rt; found == [0, u64::MAX, 0, 0, 6, 0, 7, 8, 1]);
+    assert!(rt; port.words() == [2, 1, 9, 4, 8, 0, 1, 0, 0, 0, 0].as_slice());
     Ok(())
 }
 
@@ -57,14 +60,13 @@ fn load<P: WordPort>(port: &mut P, at: usize) -> u64
 fn operations_are_kept(rt: HostRuntime) -> Result<(), Fail> {
     let cfg = one_node(rt.alloc())?;
     let mut port = RecordPort::new(rt.alloc(), &cfg, 1)?;
-    assert_eq!(rt; load(&mut port, 2), 3);
-    assert_eq!(rt; load(&mut port, 1), 1);
+    let found = (load(&mut port, 2), load(&mut port, 1));
     let first = Made {
         at: 2,
         op: Op::Load,
         found: 3,
     };
-    assert_eq!(rt; port.made(), [first].as_slice());
-    assert_eq!(rt; port.words().len(), 11);
+    let kept = port.made() == [first].as_slice() && port.words().len() == 11;
+    assert!(rt; found == (3, 1) && kept);
     Ok(())
 }

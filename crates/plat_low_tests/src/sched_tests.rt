@@ -1,22 +1,24 @@
 //! Choices that were worked out by hand, and the words of the generator's reference.
-use plat_base::{List, Plan};
+use plat_base::{List, OutOfMemory, Plan};
 use plat_sched::Schedule;
 use rand_pcg::Lcg64Xsh32;
 use rand_pcg::rand_core::utils::NextWord;
-use std::alloc::{AllocError, Global};
+use std::alloc::Global;
 use std::test::Fail;
 
-// The choices among these live actors, one after another.
-fn choices(
+// Whether a plan chooses so among these live actors, one after another.
+fn chooses(
     alloc: Global,
-    schedule: &mut Schedule,
+    plan: &Plan,
     lives: &[u32],
-) -> Result<Vec<Option<u32>>, AllocError> {
-    let mut chosen = Vec::new(alloc);
-    for live in lives {
-        chosen.push(schedule.next(*live))?;
+    chosen: &[Option<u32>],
+) -> Result<bool, OutOfMemory> {
+    let mut schedule = Schedule::new(alloc, plan)?;
+    let mut so_far = lives.len() == chosen.len();
+    for (live, wanted) in lives.iter().zip(chosen) {
+        so_far = schedule.next(*live) == *wanted && so_far;
     }
-    Ok(chosen)
+    Ok(so_far)
 }
 
 #[test]
@@ -35,30 +37,19 @@ fn draws_the_reference_words(rt: HostRuntime) {
 
 #[test]
 fn draws_a_word_for_each_choice(rt: HostRuntime) -> Result<(), Fail> {
-    let alloc = rt.alloc();
     let plan = Plan::Random { a: 42, b: 54 };
-    let mut schedule = Schedule::new(alloc, &plan)?;
-    let chosen = choices(alloc, &mut schedule, &[0b11; 5])?;
-    assert_eq!(rt;
-        chosen.as_slice(),
-        [Some(1), Some(1), Some(0), Some(1), Some(1)].as_slice()
-    );
-    let mut again = Schedule::new(alloc, &plan)?;
-    let others = choices(alloc, &mut again, &[0b11, 0b01, 0, 0b11, 0b11])?;
-    assert_eq!(rt;
-        others.as_slice(),
-        [Some(1), Some(0), None, Some(0), Some(1)].as_slice()
-    );
+    let first = [Some(1), Some(1), Some(0), Some(1), Some(1)];
+    assert!(rt; chooses(rt.alloc(), &plan, &[0b11; 5], &first)?);
+    let lives = [0b11, 0b01, 0, 0b11, 0b11];
+    let others = [Some(1), Some(0), None, Some(0), Some(1)];
+    assert!(rt; chooses(rt.alloc(), &plan, &lives, &others)?);
     Ok(())
 }
 
 #[test]
 fn goes_round(rt: HostRuntime) -> Result<(), Fail> {
-    let alloc = rt.alloc();
-    let mut schedule = Schedule::new(alloc, &Plan::Robin)?;
     let lives = [0b1011, 0b1011, 0b1011, 0b1011, 0b0010, 0b1001, 0, 0b1001];
-    let chosen = choices(alloc, &mut schedule, &lives)?;
-    let expected = [
+    let chosen = [
         Some(0),
         Some(1),
         Some(3),
@@ -68,7 +59,7 @@ fn goes_round(rt: HostRuntime) -> Result<(), Fail> {
         None,
         Some(0),
     ];
-    assert_eq!(rt; chosen.as_slice(), expected.as_slice());
+    assert!(rt; chooses(rt.alloc(), &Plan::Robin, &lives, &chosen)?);
     Ok(())
 }
 
@@ -81,9 +72,8 @@ fn passes_over_the_dead(rt: HostRuntime) -> Result<(), Fail> {
     actors.push(40);
     actors.push(0);
     actors.push(2);
-    let mut schedule = Schedule::new(alloc, &Plan::Listed(actors))?;
-    let chosen = choices(alloc, &mut schedule, &[0b1011; 5])?;
-    let expected = [Some(1), Some(0), Some(1), Some(3), Some(0)];
-    assert_eq!(rt; chosen.as_slice(), expected.as_slice());
+    let plan = Plan::Listed(actors);
+    let chosen = [Some(1), Some(0), Some(1), Some(3), Some(0)];
+    assert!(rt; chooses(alloc, &plan, &[0b1011; 5], &chosen)?);
     Ok(())
 }

@@ -1,26 +1,24 @@
 -- the lines before the distances: what is read is spelled so, and what is spelled so is read
-use Rattle.std.proofs.Common.{◌≡◌, ℕ, ◌+◌, ◌^◌, ◌<◌, ◌≤◌, Bool, true, false, ◌&&◌, cond, eqb, leb, ltb, List, [], ◌∷◌, ◌++◌, length, map}
-use Rattle.std.proofs.Common.{Result, Ok, Err, codes, IsTrue, refl, ap, sym, ◌∙◌, subst, arith}
+use Rattle.std.proofs.Common.{◌≡◌, ℕ, ◌^◌, ◌<◌, ◌≤◌, true, leb, List, [], ◌∷◌, ◌++◌, length, map}
+use Rattle.std.proofs.Common.{Result, Ok, codes, IsTrue, refl, ap, sym, ◌∙◌, arith}
 use Rattle.std.specs.Fmt.{decimal}
-use Rattle.std.specs.List.{AllByRecursion, list_all, list_any}
+use Rattle.std.specs.List.{AllByRecursion, list_all}
 use Rattle.std.proofs.lemmas.Bool.{and_parts, and_from, leb-true, le-leb, lt-ltb, ltb-true}
 use Rattle.std.proofs.lemmas.Bool.Decides.{nat_tests}
 use Rattle.plat_grammar.specs.Lines.{number_of}
 use Rattle.plat_base.specs.Machine.{Turns, robin, random, listed, is_within, is_page_size, is_policy, is_schedule, is_number}
-use Rattle.plat_base.specs.Canon.{policy_words, schedule_words, number_line as number_words}
-use Rattle.plat_grammar.specs.Forms.{◌>>=◌, Row, Rest, refused, one, nothing, ◌·◌, number, any_number, made, chosen, choice, number_in}
-use Rattle.plat_grammar.specs.Forms.{line_at, listed as listed_form}
-use Rattle.plat_grammar.specs.FirstFault.{number_line, page_size, size_of, size_line, version_line, platinum_line, policies, policy_line}
-use Rattle.plat_grammar.specs.FirstFault.{random_line, schedules, schedule_line, Header, header_at}
-use Rattle.plat_base.specs.declared.faults.Refused.{Refused}
+use Rattle.plat_grammar.specs.Forms.{Row, Rest, one, nothing, ◌·◌, made}
+use Rattle.plat_grammar.specs.Forms.{line_at}
+use Rattle.plat_grammar.specs.FirstFault.{number_line, page_size, size_of, size_line, version_line, policies, policy_line}
+use Rattle.plat_grammar.specs.FirstFault.{schedules, schedule_line, Header, header_at}
 use Rattle.plat_base.specs.declared.faults.Why.{Why}
 use Rattle.plat_base.specs.declared.faults.Why.TheVariants as why
 use Rattle.plat_base.specs.declared.policies.PolicyKind.{PolicyKind}
 use Rattle.plat_base.specs.declared.policies.PolicyKind.TheVariants as policy
-use Rattle.plat_text.proofs.Results.{taking, then_ok, ok_is, ok_first, ok_second, let_through}
+use Rattle.plat_text.proofs.Results.{taking, then_ok, ok_first, ok_second, let_through}
 use Rattle.plat_text.proofs.NumberLemmas.{number_of-takes, number_of-again}
 use Rattle.plat_text.proofs.WordLaws.{IsWordForm, number-law, any-law, exactly-law, is_within-true, is_within-from}
-use Rattle.plat_text.proofs.FormLaws.{row_texts, IsTail, IsKind, one-law, nothing-law, before-law, made-law, same-law, listed-law}
+use Rattle.plat_text.proofs.FormLaws.{row_texts, IsTail, one-law, nothing-law, before-law, made-law, same-law, listed-law}
 use Rattle.plat_text.proofs.FormLaws.{made-kind, made-again, choice-takes, choice-again}
 use Rattle.plat_text.proofs.SectionLaws.{rest_lists, Took, took_then, IsSection, line-law, again_exactly}
 

@@ -1,6 +1,6 @@
 -- instructions: what is read is spelled so, and what is spelled so is read
-use Rattle.std.proofs.Common.{◌≡◌, ℕ, zero, suc, ◌+◌, ◌^◌, ◌<◌, ◌≤◌, Bool, true, false, not, ◌&&◌, cond, eqb, leb, ltb, List, [], ◌∷◌, ◌++◌}
-use Rattle.std.proofs.Common.{length, map, Option, Some, None, option_map, Result, Ok, Err, codes, IsTrue, refl, ap, sym, ◌∙◌, subst, arith}
+use Rattle.std.proofs.Common.{◌≡◌, ℕ, ◌<◌, Bool, true, false, ◌&&◌, cond, eqb, leb, ltb, List, [], ◌∷◌}
+use Rattle.std.proofs.Common.{Option, Some, None, option_map, Result, Ok, Err, codes, refl, ap, sym, ◌∙◌, arith}
 use Rattle.std.proofs.Common.{⊎_elim}
 use Rattle.std.specs.Fmt.{decimal}
 use Rattle.std.specs.List.{AllByRecursion}
@@ -9,9 +9,9 @@ use Rattle.plat_grammar.specs.Lines.{number_of}
 use Rattle.plat_base.specs.Labels.{is_label_name}
 use Rattle.plat_base.specs.Machine.{is_instr, is_register, is_number, is_index}
 use Rattle.plat_base.specs.Canon.{instr_words, register_word, index_words}
-use Rattle.plat_grammar.specs.Forms.{◌>>=◌, Row, word_at, refused, read_as, one, nothing, ◌·◌, number, any_number, made, maybe, chosen}
-use Rattle.plat_grammar.specs.Drafts.{Target, Draft, plain, register_below_16, numbered_register, register_of, register, name_of, target}
-use Rattle.plat_grammar.specs.Drafts.{address, two_registers, three_registers, set_line, move_line, add_line, sub_line, mul_line, and_line}
+use Rattle.plat_grammar.specs.Forms.{Row, word_at, refused, read_as, chosen}
+use Rattle.plat_grammar.specs.Drafts.{Draft, plain, numbered_register, register_of, name_of, target}
+use Rattle.plat_grammar.specs.Drafts.{set_line, move_line, add_line, sub_line, mul_line, and_line}
 use Rattle.plat_grammar.specs.Drafts.{shr_line, load_line, store_line, fadd_line, switch_line, print_line, jump_line, zero_line, less_line}
 use Rattle.plat_grammar.specs.Drafts.{halt_line, instructions, instruction_line, with_label}
 use Rattle.plat_base.specs.declared.faults.Refused.{Refused}
@@ -19,11 +19,11 @@ use Rattle.plat_base.specs.declared.faults.Why.{Why}
 use Rattle.plat_base.specs.declared.faults.Why.TheVariants as why
 use Rattle.plat_base.specs.declared.guests.Instr.{Instr}
 use Rattle.plat_base.specs.declared.guests.Instr.TheVariants as instr
-use Rattle.plat_text.proofs.Results.{taking, then_ok, ok_is, ok_first, ok_second, let_through}
+use Rattle.plat_text.proofs.Results.{taking, then_ok, ok_first, ok_second, let_through}
 use Rattle.plat_text.proofs.NumberLemmas.{number_of-takes, number_of-again}
 use Rattle.plat_text.proofs.WordLaws.{IsWordForm, number-law, any-law}
 use Rattle.plat_text.proofs.FormLemmas.{word_taken}
-use Rattle.plat_text.proofs.FormLaws.{row_texts, IsForm, IsTail, IsKind, one-law, nothing-law, before-law, maybe_words, maybe_fits}
+use Rattle.plat_text.proofs.FormLaws.{row_texts, IsForm, IsKind, one-law, nothing-law, before-law, maybe_words, maybe_fits}
 use Rattle.plat_text.proofs.FormLaws.{maybe-law, word_there, texts_taken, read_as-ok, made-kind, made-again, chosen-takes}
 
 -- ---- registers

@@ -1,5 +1,5 @@
 -- labels and the set of their names
-use Rattle.std.proofs.Common.{◌≡◌, ℕ, suc, zero, ◌+◌, ◌<◌, ◌≤◌, Bool, true, false, cond, ltb, not, List, [], ◌∷◌, ◌++◌, length, map, Option}
+use Rattle.std.proofs.Common.{◌≡◌, ℕ, ◌+◌, Bool, false, cond, ltb, not, List, [], ◌∷◌, ◌++◌, length, map}
 use Rattle.std.proofs.Common.{Some, None, bytes_eq, refl, ap, sym, ◌∙◌, ◌||◌}
 use Rattle.std.proofs.lemmas.List.{length-map, map-append, length_push}
 use Rattle.indexmap.specs.IndexSet.{insert_key}

@@ -1,18 +1,15 @@
 -- labels of instructions: a name becomes the number of the label that has it, and the other way
-use Rattle.std.proofs.Common.{◌≡◌, ℕ, zero, suc, ◌+◌, ◌<◌, ◌≤◌, Bool, true, false, not, ◌&&◌, ◌||◌, cond, ltb, List, [], ◌∷◌, ◌++◌, length}
-use Rattle.std.proofs.Common.{map, get_or, Option, Some, None, option_map, Result, Ok, Err, bytes_eq, refl, ap, sym, ◌∙◌, subst, arith}
+use Rattle.std.proofs.Common.{◌≡◌, ℕ, zero, suc, ◌<◌, Bool, true, false, not, ◌&&◌, ltb, List, [], ◌∷◌, ◌++◌, length}
+use Rattle.std.proofs.Common.{map, get_or, Option, Some, None, option_map, Ok, bytes_eq, refl, ap, sym, ◌∙◌, arith}
 use Rattle.std.proofs.Common.{append_assoc, append-nil}
-use Rattle.std.specs.List.{AllByRecursion, list_all, list_any, position, position_or_len}
+use Rattle.std.specs.List.{AllByRecursion, list_all, list_any, position_or_len}
 use Rattle.std.proofs.lemmas.Bool.{and_parts, and_from, or_parts, not-true, ltb-true, lt-ltb, false≢true, false_from_ne_true}
 use Rattle.std.proofs.lemmas.List.Quantifiers.{position-Some}
 use Rattle.std.proofs.lemmas.Slice.Eq.{bytes_eq-Decides}
 use Rattle.plat_base.specs.GuestRun.{no_label}
 use Rattle.plat_base.specs.Machine.{all_differ, same_name, is_instr, is_register}
-use Rattle.plat_base.specs.Canon.{Words, instr_words, label_name}
-use Rattle.plat_grammar.specs.Forms.{◌>>=◌, refused}
+use Rattle.plat_base.specs.Canon.{instr_words, label_name}
 use Rattle.plat_grammar.specs.Drafts.{Target, Draft, with_label, label_number, linked, linked_by, linked_to, code_from}
-use Rattle.plat_base.specs.declared.faults.Refused.{Refused}
-use Rattle.plat_base.specs.declared.faults.Why.TheVariants as why
 use Rattle.plat_base.specs.declared.guests.Label.{Label}
 use Rattle.plat_base.specs.declared.guests.Instr.{Instr}
 use Rattle.plat_base.specs.declared.guests.Instr.TheVariants as instr

@@ -1,17 +1,15 @@
 -- distances, entries and starting values: what is read is spelled so, and what is spelled so is read
-use Rattle.std.proofs.Common.{◌≡◌, ℕ, ◌+◌, ◌^◌, ◌<◌, ◌≤◌, Bool, true, false, not, ◌&&◌, cond, eqb, leb, ltb, List, [], ◌∷◌, ◌++◌, length}
-use Rattle.std.proofs.Common.{map, Result, Ok, Err, codes, IsTrue, refl, ap, sym, ◌∙◌, subst, arith}
+use Rattle.std.proofs.Common.{◌≡◌, ℕ, ◌^◌, ◌<◌, ◌≤◌, Bool, true, false, not, ◌&&◌, cond, eqb, ltb, List, [], ◌∷◌, length}
+use Rattle.std.proofs.Common.{map, Ok, Err, codes, refl, ap, sym, ◌∙◌, arith}
 use Rattle.std.specs.Fmt.{decimal}
-use Rattle.std.specs.List.{AllByRecursion, list_all}
+use Rattle.std.specs.List.{AllByRecursion}
 use Rattle.std.proofs.lemmas.Bool.{and_parts, and_from, lt-ltb, ltb-true, not-true, not_from_false}
 use Rattle.std.proofs.lemmas.Bool.Decides.{nat_tests}
 use Rattle.plat_grammar.specs.Lines.{number_of}
 use Rattle.plat_base.specs.Machine.{is_within, is_distance, is_entry, is_init, is_number, same_nodes, same_place, same_word, all_differ}
 use Rattle.plat_base.specs.Canon.{distance_words, entry_words, init_words}
-use Rattle.plat_grammar.specs.Forms.{◌>>=◌, Row, Rest, one, nothing, ◌·◌, number, number_below, below, any_number, made, all_with}
-use Rattle.plat_grammar.specs.FirstFault.{other_than, other_node, distance_line, entry_line, init_line, distances_at, entries_at, inits_at}
-use Rattle.plat_base.specs.declared.faults.Refused.{Refused}
-use Rattle.plat_base.specs.declared.faults.Why.{Why}
+use Rattle.plat_grammar.specs.Forms.{Row, Rest, one, nothing, number, below}
+use Rattle.plat_grammar.specs.FirstFault.{other_node, distance_line, entry_line, init_line, distances_at, entries_at, inits_at}
 use Rattle.plat_base.specs.declared.faults.Why.TheVariants as why
 use Rattle.plat_base.specs.declared.configs.Distance.{Distance}
 use Rattle.plat_base.specs.declared.configs.Entry.{Entry}

@@ -6,7 +6,7 @@ use Rattle.std.specs.List.{AllByRecursion, list_all, flat_map}
 use Rattle.std.proofs.lemmas.Bool.{and_parts, ltb-true, leb-true}
 use Rattle.std.proofs.lemmas.Bool.Decides.{nat_tests}
 use Rattle.plat_base.specs.Labels.{is_label_name}
-use Rattle.plat_base.specs.Machine.{Machine, Program, Turns, robin, random, listed, is_page_size, is_policy, is_schedule, is_within}
+use Rattle.plat_base.specs.Machine.{Machine, Program, Turns, robin, random, listed, is_policy, is_schedule, is_within}
 use Rattle.plat_base.specs.Machine.{is_number, is_distance, is_entry, is_init, is_register, is_index, is_instr}
 use Rattle.plat_base.specs.Seen.{machine}
 use Rattle.plat_base.specs.Text.{text_bytes}

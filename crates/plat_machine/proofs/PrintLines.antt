@@ -1,10 +1,10 @@
 -- lines that are written one after another by one function
-use Rattle.std.proofs.Common.{◌≡◌, ℕ, ◌≤◌, ◌||◌, Bool, true, false, List, [], ◌∷◌, ◌++◌, Option, Result, Ok, Err, inl, inr, refl, sym, ap}
+use Rattle.std.proofs.Common.{◌≡◌, ℕ, ◌||◌, List, [], ◌∷◌, ◌++◌, Option, Result, Ok, Err, refl, sym, ap}
 use Rattle.std.proofs.Common.{◌∙◌, arith}
 use Rattle.std.specs.Result.{IsErr}
 use Rattle.std.proofs.lemmas.Bool.{or_left, or_right}
 use Rattle.plat_base.specs.Canon.{Words}
-use Rattle.plat_io.specs.Streams.{added, HasRisen}
+use Rattle.plat_io.specs.Streams.{added}
 use Rattle.plat_io.specs.Adds.{is_part}
 use Rattle.plat_io.specs.Lines.{text, AddsLines}
 use Rattle.plat_io.specs.declared.sinks.Sink.{Ghosts}

@@ -1,17 +1,16 @@
 -- whole texts: what is read is in the grammar, and what is in the grammar is read
-use Rattle.std.proofs.Common.{◌≡◌, ℕ, suc, zero, ◌+◌, ◌<◌, ◌≤◌, Bool, true, false, not, cond, eqb, ltb, leb, List, [], ◌∷◌, ◌++◌, length}
-use Rattle.std.proofs.Common.{map, Result, Ok, Err, IfOk, codes, IsTrue, refl, ap, sym, ◌∙◌, subst, arith, append_assoc, append-nil, ⊎_elim}
-use Rattle.std.specs.List.{AllByRecursion}
-use Rattle.std.proofs.lemmas.Bool.{cases_Bool, ltb-false, le-ltb, le-leb}
+use Rattle.std.proofs.Common.{◌≡◌, ℕ, suc, ◌+◌, Bool, true, false, cond, ltb, List, [], ◌∷◌, ◌++◌, length}
+use Rattle.std.proofs.Common.{Result, Ok, Err, IfOk, codes, IsTrue, refl, ap, sym, ◌∙◌, arith, append_assoc, append-nil}
+use Rattle.std.proofs.lemmas.Bool.{ltb-false, le-ltb, le-leb}
 use Rattle.std.proofs.lemmas.List.{same_from_push}
-use Rattle.plat_grammar.specs.Lines.{LineText, lines_of}
-use Rattle.plat_base.specs.Machine.{Machine, is_machine}
+use Rattle.plat_grammar.specs.Lines.{lines_of}
+use Rattle.plat_base.specs.Machine.{Machine}
 use Rattle.plat_base.specs.Text.{text_bytes}
-use Rattle.plat_base.specs.Canon.{Words, canon, canon_text, is_short, most_bytes}
-use Rattle.plat_grammar.specs.Forms.{◌>>=◌, Row, Rest, Gives, finished, refused, rest_of, over}
+use Rattle.plat_base.specs.Canon.{canon, canon_text, is_short, most_bytes}
+use Rattle.plat_grammar.specs.Forms.{Row, Gives, refused, rest_of, over}
 use Rattle.plat_grammar.specs.FirstFault.{machine_at, text_at, text_from}
 use Rattle.plat_grammar.specs.Forms.{rows_of}
-use Rattle.plat_grammar.specs.Grammar.{IsMachine, IsClean, IsTextOf, IsFrontOf, line_words, has_words, word_lists}
+use Rattle.plat_grammar.specs.Grammar.{IsMachine, IsTextOf, IsFrontOf, line_words, word_lists}
 use Rattle.plat_base.specs.declared.faults.Refused.{Refused}
 use Rattle.plat_base.specs.declared.faults.TextFault.{TextFault}
 use Rattle.plat_base.specs.declared.faults.TextFault.TheVariants as fault
@@ -19,10 +18,10 @@ use Rattle.plat_base.specs.declared.faults.Why.TheVariants as why
 use Rattle.plat_text.proofs.Results.{taking, then_ok, ok_is, ok_first, ok_second}
 use Rattle.plat_text.proofs.FormLaws.{row_texts}
 use Rattle.plat_text.proofs.SectionLaws.{row_lists, row_lists-append, rest_lists}
-use Rattle.plat_text.proofs.TextLaws.{rows-clean, finished-clean, over-takes, over-again, IsRowOf, front-takes, HasRow, front-again}
+use Rattle.plat_text.proofs.TextLaws.{rows-clean, finished-clean, over-takes, over-again, front-takes, front-again}
 use Rattle.plat_text.proofs.TextLaws.{line_row}
 use Rattle.plat_text.proofs.CanonLaws.{canonical-le}
-use Rattle.plat_machine.proofs.MachineLaws.{MachineTook, machine-takes, machine-again, header_of, machine_lines, canon-front}
+use Rattle.plat_machine.proofs.MachineLaws.{machine-takes, machine-again, header_of, machine_lines, canon-front}
 
 -- ---- a text alone
 

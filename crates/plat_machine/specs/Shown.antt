@@ -1,5 +1,5 @@
 -- what contracts see of what is read
-use Rattle.std.specs.Prelude.{List, map, Option, option_map}
+use Rattle.std.specs.Prelude.{List, map, option_map}
 use Rattle.plat_base.specs.Machine.{Machine, turns_of, programs_seen}
 use Rattle.plat_grammar.specs.FirstFault.{machine_with, Header as HeaderSeen}
 use Rattle.plat_grammar.specs.Drafts.{Draft as DraftSeen, Target as TargetSeen}

@@ -1,5 +1,5 @@
 //! Lines of instructions.
-ghost use Rattle.std.specs.Prelude.{◌≡◌, ◌<◌, None, OnOk};
+ghost use Rattle.std.specs.Prelude.{◌≡◌, ◌<◌, None, OnOk, drop};
 ghost use Rattle.std.specs.List.{list_all};
 ghost use Rattle.plat_base.specs.Labels.{is_label_byte, is_label_name};
 ghost use Rattle.plat_grammar.specs.Forms.{Reads, refused, chosen};
@@ -316,6 +316,15 @@ fn kind<'a>(row: &mut Row<'a>, line: u32, first: Token<'a>) -> Result<Draft<'a>,
     if word == b"shr".as_slice() {
         return shr(row);
     }
+    moving_kind(row, line, first)
+}
+
+/// The same of those that compute nothing: accesses, switches, prints, jumps and the halt.
+fn moving_kind<'a>(row: &mut Row<'a>, line: u32, first: Token<'a>) -> Result<Draft<'a>, Refused>
+    ensures { Reads draft result (chosen (drop 7 instructions) (refused line first.entry.column why.UnknownInstruction)
+        first.entry.bytes.now row.old) }
+{
+    let word = first.bytes;
     if word == b"load".as_slice() {
         return load(row);
     }

@@ -1,11 +1,18 @@
 -- where a poll and its scan lead, as the code keeps it, and what becomes of a handler that waited for them
-use Rattle.std.specs.Prelude.{◌≡◌, true, Option, Some, None}
+use Rattle.std.specs.Prelude.{◌≡◌, ℕ, ◌+◌, true, if◌then◌else◌, Option, Some, None}
+use Rattle.plat_base.specs.Machine.{Machine}
+use Rattle.plat_base.specs.declared.items.Message.TheVariants as message
+use Rattle.plat_base.specs.declared.items.Moment.{Moment}
+use Rattle.plat_base.specs.declared.items.Moment.TheVariants as moment
 use Rattle.plat_handler.specs.HandlerSeen.{HandlerSeen}
 use Rattle.plat_handler.specs.Stages.{stage_polled}
 use Rattle.plat_events.specs.Privates as events
+use Rattle.plat_events.specs.Scans.{go_on, scan_from}
+use Rattle.plat_events.specs.Words.{has_bit, has_invalidate, has_restrict}
+use Rattle.plat_proc.specs.declared.places.Onward.{Onward}
 use Rattle.plat_proc.specs.declared.places.Place.{Place}
 use Rattle.plat_proc.specs.declared.places.Place.TheVariants as place
-use Rattle.plat_proc.specs.Places.{HandlesWell, Waits, place_seen}
+use Rattle.plat_proc.specs.Places.{HandlesWell, Waits, WaitsWell, onward_seen, place_seen}
 
 -- a handler goes on behind its poll
 abbrev pub handler_polled : Option HandlerSeen → Option HandlerSeen
@@ -46,3 +53,20 @@ MayGo handler (place.Gone e) = HandlesWell handler (place.Gone e)
 pub record LeadsTo (handler : Option HandlerSeen) (place : Place) (there : events.Place) : Type 0 where
   pub may : MayGo handler place
   pub is : place_seen (handler_at handler place) place ≡ there
+
+-- whatever handler waits for the poll and its scan, the place is the one that the events go to
+abbrev pub LeadsOn : Onward → Place → (events.Onward → events.Place) → Type 0
+LeadsOn onward place there = (handler : Option HandlerSeen) → WaitsWell handler onward
+    → LeadsTo handler place (there (onward_seen handler onward))
+
+-- where the events go to behind a poll that found these interrupts
+abbrev pub poll_from : Machine → (turns space interrupts : ℕ) → events.Onward → events.Place
+poll_from m turns space interrupts next =
+    if has_bit interrupts space then scan_from m turns space 0 moment.Interrupt next else go_on m turns next
+
+-- where the events go to behind a look at a mask
+abbrev pub look_from : Machine → (q turns space i : ℕ) → Moment → (mask : ℕ) → events.Onward → events.Place
+look_from m q turns space i moment mask next =
+    if has_invalidate mask q then events.Applying i message.Invalidate moment next
+    else if has_restrict mask q then events.Applying i message.Restrict moment next
+    else scan_from m turns space (i + 1) moment next

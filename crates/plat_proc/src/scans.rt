@@ -1,14 +1,8 @@
 //! Which place follows a poll, a scan's look, and the end of a turn.
-ghost use Rattle.std.specs.Prelude.{◌+◌, ◌<◌, if◌then◌else◌, Option, None};
+ghost use Rattle.std.specs.Prelude.{◌<◌, None};
 ghost use Rattle.plat_base.specs.Seen.{machine};
-ghost use Rattle.plat_base.specs.declared.items.Message.TheVariants as message;
-ghost use Rattle.plat_base.specs.declared.items.Moment.TheVariants as moment;
-ghost use Rattle.plat_events.specs.Privates as events;
 ghost use Rattle.plat_events.specs.Scans.{go_on, scan_from, turn_over};
-ghost use Rattle.plat_events.specs.Words.{has_bit, has_invalidate, has_restrict};
-ghost use Rattle.plat_handler.specs.HandlerSeen.{HandlerSeen};
-ghost use Rattle.plat_proc.specs.Onwards.{LeadsTo};
-ghost use Rattle.plat_proc.specs.Places.{WaitsWell, onward_seen};
+ghost use Rattle.plat_proc.specs.Onwards.{LeadsOn, LeadsTo, look_from, poll_from};
 
 use crate::entries::count_of_space;
 use crate::messages::{has_invalidate, has_restrict};
@@ -29,8 +23,7 @@ pub fn turn_over(cfg: &Config, turns: u32) -> Place
 
 /// What follows a poll and its scan.
 fn go_on(cfg: &Config, turns: u32, onward: Onward) -> Place
-    ensures { (handler : Option HandlerSeen) → WaitsWell handler onward
-        → LeadsTo handler result (go_on (machine cfg.now) turns (onward_seen handler onward)) }
+    ensures { LeadsOn onward result (go_on (machine cfg.now) turns) }
 {
     match onward {
         Onward::NewTurn => Place::Ticking,
@@ -48,9 +41,7 @@ pub fn scan_from(
     moment: Moment,
     onward: Onward,
 ) -> Place
-    ensures { (handler : Option HandlerSeen) → WaitsWell handler onward
-        → LeadsTo handler result
-        (scan_from (machine cfg.now) turns space i moment (onward_seen handler onward)) }
+    ensures { LeadsOn onward result (scan_from (machine cfg.now) turns space i moment) }
 {
     if i < count_of_space(cfg, space) {
         Place::Looking { i, moment, onward }
@@ -62,11 +53,7 @@ pub fn scan_from(
 /// What follows a poll that found these interrupts: a scan, where one is for the active space.
 pub fn polled(cfg: &Config, turns: u32, space: u32, onward: Onward, interrupts: u64) -> Place
     requires { space < 8 }
-    ensures { (handler : Option HandlerSeen) → WaitsWell handler onward
-        → let next = onward_seen handler onward in
-        LeadsTo handler result
-        (if has_bit interrupts space then scan_from (machine cfg.now) turns space 0 moment.Interrupt next
-        else go_on (machine cfg.now) turns next) }
+    ensures { LeadsOn onward result (poll_from (machine cfg.now) turns space interrupts) }
 {
     if bit(interrupts, space) {
         scan_from(cfg, turns, space, 0, Moment::Interrupt, onward)
@@ -88,11 +75,7 @@ pub fn looked(
 ) -> Place
     requires processor { q < 8 }
     requires below { i < 512 }
-    ensures { (handler : Option HandlerSeen) → WaitsWell handler onward
-        → let next = onward_seen handler onward in
-        LeadsTo handler result (if has_invalidate mask q then events.Applying i message.Invalidate moment next
-        else if has_restrict mask q then events.Applying i message.Restrict moment next
-        else scan_from (machine cfg.now) turns space (i + 1) moment next) }
+    ensures { LeadsOn onward result (look_from (machine cfg.now) q turns space i moment mask) }
 {
     if has_invalidate(mask, q) {
         Place::Applying {

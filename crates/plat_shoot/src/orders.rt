@@ -1,8 +1,8 @@
 //! The course of a shootdown: each operation, and what follows it.
-ghost use Rattle.std.specs.Prelude.{◌≡◌, ◌<◌, ◌≤◌, ◌++◌, ◌∷◌, [], IsTrue, length};
+ghost use Rattle.std.specs.Prelude.{◌≡◌, ℕ, ◌<◌, ◌≤◌, ◌++◌, ◌∷◌, List, [], IsTrue, length};
 ghost use Rattle.plat_base.specs.Pages.{entries_of_page};
 ghost use Rattle.plat_base.specs.Seen.{machine};
-ghost use Rattle.plat_events.specs.Places.{is_name};
+ghost use Rattle.plat_events.specs.Places.{is_name, is_word};
 ghost use Rattle.plat_events.specs.Shootdowns.{targets, entry_posted, shot_next, shot_after, ask_from, shoot_from, mask_found, own_post};
 ghost use Rattle.plat_events.specs.Shootdowns.{is_active_in, target_at};
 ghost use Rattle.plat_events.specs.Words.{has_message};
@@ -15,6 +15,7 @@ use crate::steps::{Shot, Step};
 use crate::targets::{Passed, Target, target_at};
 use arrayvec::ArrayVec;
 use plat_base::{Config, Op, Removed, WordName};
+use plat_words::is_word;
 
 /// The most entries that lead to one page: each virtual page of each space.
 pub const MOST_POSTS: usize = 512;
@@ -68,21 +69,18 @@ pub fn operation(
     }
 }
 
-/// The word of the next operation alone.
-pub fn name_of(cfg: &Config, order: Order, posts: &[u64], passed: Passed, shot: Shot) -> WordName
-    requires passed { HasPassed order.actor posts.now passed }
-    requires fits { ShotFits (machine cfg.now) order.actor order.page posts.now (shot_seen shot) }
-    ensures { result
-        ≡ (shot_next (machine cfg.now) order.actor order.page order.removed posts.now (shot_seen shot)).0 }
+/// Whether the word of the next operation may be this number, which is asked of the kind of the word alone.
+pub fn may_find(cfg: &Config, shot: Shot, old: u64) -> bool
+    ensures { (actor page : ℕ) (removed : Removed) (posts : List ℕ)
+        → result ≡ is_word (machine cfg.now)
+        (shot_next (machine cfg.now) actor page removed posts (shot_seen shot)).0 old }
 {
-    match shot {
-        Shot::Posting | Shot::PostingOn(_) => WordName::Cmap(entry_posted(cfg, order, posts)),
-        Shot::Asking(k) | Shot::AskingAgain(k) => {
-            WordName::Act(target_of(cfg, order, posts, passed, k).processor)
-        }
-        Shot::Interrupting(k) => WordName::Intr(target_of(cfg, order, posts, passed, k).processor),
-        Shot::Watching(k) => WordName::Cmap(target_of(cfg, order, posts, passed, k).entry),
-    }
+    let name = match shot {
+        Shot::Posting | Shot::PostingOn(_) | Shot::Watching(_) => WordName::Cmap(0),
+        Shot::Asking(_) | Shot::AskingAgain(_) => WordName::Act(0),
+        Shot::Interrupting(_) => WordName::Intr(0),
+    };
+    is_word(cfg, name, old)
 }
 
 /// The entry that the next post is for.

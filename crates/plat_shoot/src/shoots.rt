@@ -6,12 +6,12 @@ ghost use Rattle.plat_shoot.specs.ShootSeen.{ShootsOn, shoot_started, with_shoot
 ghost use Rattle.plat_shoot.specs.ShootSeen.{is_finished, watch_again, own_after, own_by};
 
 use crate::needs::{Need, Own};
-use crate::orders::{Order, Posts, after, name_of, operation, own_post, shoot_from};
+use crate::orders::{Order, Posts, after, may_find, operation, own_post, shoot_from};
 use crate::steps::{Shot, Step};
 use crate::targets::Passed;
 use arrayvec::ArrayVec;
 use plat_base::{Config, Removed};
-use plat_words::{is_word, place};
+use plat_words::place;
 use std::marker::Model;
 
 /// A shootdown of a page by an actor, a processor or the daemon (Cox and Fowler 1989): it posts to each entry of the page, and
@@ -118,8 +118,7 @@ impl Shoot {
         let Step::Makes(shot) = self.step else {
             unreachable!()
         };
-        let name = name_of(cfg, self.order, self.posts.as_slice(), self.passed, shot);
-        if !is_word(cfg, name, old) {
+        if !may_find(cfg, shot, old) {
             return Own::Nothing;
         }
         let entry = own_post(cfg, self.order, self.posts.as_slice(), shot, old);

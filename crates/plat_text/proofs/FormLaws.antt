@@ -3,6 +3,7 @@ use Rattle.std.proofs.Common.{◌≡◌, ℕ, suc, ◌+◌, ◌≤◌, false, eq
 use Rattle.std.proofs.Common.{Option, Some, None, Result, Ok, Err, bytes_eq, refl, ap, sym, ◌∙◌, subst, arith, append_assoc, append-nil}
 use Rattle.std.proofs.Common.{⊎_elim}
 use Rattle.std.specs.List.{AllByRecursion}
+use Rattle.std.proofs.Math.Dec.{eqb-suc-zero}
 use Rattle.std.proofs.lemmas.Bool.{cases_Bool, leb-false, lt-leb}
 use Rattle.std.proofs.lemmas.Bool.Decides.{nat_tests}
 use Rattle.std.proofs.lemmas.List.{length_push}
@@ -132,9 +133,6 @@ module _ {A B : Type 0} {read : Row → Result A Refused} {sees : A → B} {spel
     again = λ row y h e. let u = from y h in law.again row y u.1 (e ∙ u.0);
   }
 
-no_zero : (n : ℕ) → eqb (suc n) 0 ≡ false
-no_zero n = grind (arith, nat_tests)
-
 -- ---- a last word that may be left out
 
 abbrev pub maybe_words : {A : Type 0} → (A → List ℕ) → Option A → List (List ℕ)
@@ -158,7 +156,7 @@ module _ {A : Type 0} {of : List ℕ → Result A Why} {spell : A → List ℕ} 
         (texts ws ≡ maybe_words spell x) × maybe_fits fits x
     maybe_takes row [] x e = let none : None ≡ x = ok_is None x e in rw (← none) (refl, tt)
     maybe_takes row (w ∷ ws) x e =
-        taking ((one of · nothing) (record row { words = w ∷ ws })) _ _ (rw (no_zero (length ws)) at e) (λ a a-is e1.
+        taking ((one of · nothing) (record row { words = w ∷ ws })) _ _ (rw (eqb-suc-zero (length ws)) at e) (λ a a-is e1.
         let value : Some a.0 ≡ x = ok_is (Some a.0) x e1 in
         let t = last-law.takes (record row { words = w ∷ ws }) a a-is in
         rw (← value) (t.0, t.1.0))
@@ -170,7 +168,7 @@ module _ {A : Type 0} {of : List ℕ → Result A Why} {spell : A → List ℕ} 
     maybe_again row [] (Some x) h e = cc
     maybe_again row (w ∷ ws) (Some x) h e =
         let t = last-law.again (record row { words = w ∷ ws }) (x, tt) (h, tt) e in
-        rw (no_zero (length ws)) (then_ok ((one of · nothing) (record row { words = w ∷ ws })) _ t.0 _ t.1 (rw t.2 refl))
+        rw (eqb-suc-zero (length ws)) (then_ok ((one of · nothing) (record row { words = w ∷ ws })) _ t.0 _ t.1 (rw t.2 refl))
 
 -- ---- words up to the end of a line
 

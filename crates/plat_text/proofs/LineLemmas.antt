@@ -4,6 +4,7 @@ use Rattle.std.proofs.Common.{zero, ◌+◌, ◌<◌, ◌≤◌, Bool, true, fal
 use Rattle.std.proofs.Common.{get_or, refl, ap, sym, ◌∙◌, arith}
 use Rattle.std.specs.List.{slice_split, onto_first, position, position_or_len, filter}
 use Rattle.std.proofs.lemmas.Bool.Decides.{nat_tests}
+use Rattle.std.proofs.Math.Dec.{eqb-suc-zero}
 use Rattle.std.proofs.Math.Nat.{le_refl}
 use Rattle.std.proofs.lemmas.Bool.{false≢true, not-true}
 use Rattle.std.proofs.lemmas.List.{drop_all, take_rest}
@@ -27,9 +28,6 @@ split_whole p (x ∷ xs) h = elim (p x) as (λ v. suc (length xs) ≤ cond (not 
       | true ↦ λ k. absurd (omega arith)
       | false ↦ λ k. ap (onto_first x) (split_whole p xs (omega arith))
     ] h
-
-no_zero : (n : ℕ) → eqb (suc n) 0 ≡ false
-no_zero n = grind (arith, nat_tests)
 
 not_zero : (n : ℕ) → 0 < n → eqb n 0 ≡ false
 not_zero n h = grind (arith, nat_tests)
@@ -67,7 +65,7 @@ unfolding lines_of
 lines_of-last n bytes h e = rw (split_whole is_feed bytes (position_none is_feed bytes e)) (whole n bytes h) where
   whole : (n : ℕ) (bytes : List ℕ) → 0 < length bytes → numbered n (bytes ∷ []) ≡ record { number = n; bytes = bytes; ended = false } ∷ []
   whole n [] h = absurd (omega arith)
-  whole n (b ∷ bs) h = rw (no_zero (length bs)) refl
+  whole n (b ∷ bs) h = rw (eqb-suc-zero (length bs)) refl
 
 -- ---- words
 
@@ -121,7 +119,7 @@ unfolding words_at
 words_at-last c bytes h e = rw (split_whole is_space bytes (position_none is_space bytes e)) (whole c bytes h) where
   whole : (c : ℕ) (bytes : List ℕ) → 0 < length bytes → filter has_bytes (placed c (bytes ∷ [])) ≡ record { column = c; bytes = bytes } ∷ []
   whole c [] h = absurd (omega arith)
-  whole c (b ∷ bs) h = rw (no_zero (length bs)) refl
+  whole c (b ∷ bs) h = rw (eqb-suc-zero (length bs)) refl
 
 -- the same, as slices of the code are written
 pub lines_of-feed_slices : (n : ℕ) (bytes : List ℕ) (i : ℕ) → position is_feed bytes ≡ Some i →

@@ -4,6 +4,7 @@ use Rattle.std.proofs.Common.{take, drop, refl, ap, ◌∙◌, arith, append_ass
 use Rattle.std.specs.List.{AllByRecursion, list_all, slice_split, onto_first, flat_map, filter, position_or_len}
 use Rattle.std.specs.Char.{is_ascii_digit}
 use Rattle.std.specs.Fmt.{decimal}
+use Rattle.std.proofs.Math.Dec.{eqb-suc-zero}
 use Rattle.std.proofs.lemmas.Bool.{and_parts, and_from, not-true, not_from_false}
 use Rattle.std.proofs.lemmas.Bool.Decides.{nat_tests}
 use Rattle.std.proofs.lemmas.List.Splits.{slice_split-cons_yes, slice_split-cons_no, length-slice_split}
@@ -58,9 +59,7 @@ abbrev pub IsPlainLine : List (List ℕ) → Type 0
 IsPlainLine l = (has_words l ≡ true) × AllByRecursion IsPlain l
 
 some_bytes : (b : ℕ) (bs : List ℕ) → not (is_empty (b ∷ bs)) ≡ true
-some_bytes b bs = not_from_false _ (no_zero (length bs)) where
-  no_zero : (n : ℕ) → eqb (suc n) 0 ≡ false
-  no_zero n = grind (arith, nat_tests)
+some_bytes b bs = not_from_false _ (eqb-suc-zero (length bs))
 
 pub plain-cons : (b : ℕ) (bs : List ℕ) → is_plain b ≡ true → list_all is_plain bs ≡ true → IsPlain (b ∷ bs)
 plain-cons b bs h g = and_from _ _ (some_bytes b bs) (and_from _ _ h g)

@@ -1,8 +1,7 @@
 //! Machine texts that are read, and the first faults of damaged ones. All places were worked out by hand.
-use crate::print_tests::{EACH_LINE, SMALLEST};
+use crate::print_tests::{EACH_LINE, SMALLEST, prints};
 use plat_base::{Refused, TextFault, Why};
-use plat_io::QuietSink;
-use plat_machine::{parse, parse_from, print_machine};
+use plat_machine::{parse, parse_from};
 use plat_text::lines;
 use std::alloc::{AllocError, Global};
 use std::test::Fail;
@@ -164,10 +163,7 @@ jump   b_2
 
 #[test]
 fn loose_text(rt: HostRuntime) -> Result<(), Fail> {
-    let cfg = parse(rt.alloc(), LOOSE)?;
-    let mut sink = QuietSink::new(rt.alloc(), 1000)?;
-    print_machine(&cfg, &mut sink)?;
-    assert_eq!(rt; sink.bytes(), EACH_LINE);
+    assert!(rt; prints(rt.alloc(), &parse(rt.alloc(), LOOSE)?, EACH_LINE)?);
     Ok(())
 }
 
@@ -199,10 +195,7 @@ end
 #[test]
 fn text_inside_a_longer_one(rt: HostRuntime) -> Result<(), Fail> {
     let (cfg, next) = parse_from(rt.alloc(), LONGER, 3)?;
-    assert_eq!(rt; next, 13);
-    let mut sink = QuietSink::new(rt.alloc(), 1000)?;
-    print_machine(&cfg, &mut sink)?;
-    assert_eq!(rt; sink.bytes(), FRONT);
+    assert!(rt; next == 13 && prints(rt.alloc(), &cfg, FRONT)?);
     Ok(())
 }
 

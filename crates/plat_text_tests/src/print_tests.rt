@@ -173,13 +173,23 @@ halt
 end
 ";
 
+/// Whether this is the canonical text of a machine.
+pub fn prints(alloc: Global, cfg: &Config, text: &[u8]) -> Result<bool, Fail> {
+    let mut sink = QuietSink::new(alloc, 1000)?;
+    print_machine(cfg, &mut sink)?;
+    Ok(sink.bytes() == text)
+}
+
+/// Whether a machine is printed so far, where the sink takes no more bytes than these.
+fn breaks_off(alloc: Global, cfg: &Config, text: &[u8]) -> Result<bool, Fail> {
+    let mut sink = QuietSink::new(alloc, text.len())?;
+    let fails = print_machine(cfg, &mut sink) == Err(WriteFault);
+    Ok(fails && sink.bytes() == text)
+}
+
 #[test]
 fn smallest_machine(rt: HostRuntime) -> Result<(), Fail> {
-    let alloc = rt.alloc();
-    let cfg = smallest(alloc)?;
-    let mut sink = QuietSink::new(alloc, 1000)?;
-    print_machine(&cfg, &mut sink)?;
-    assert_eq!(rt; sink.bytes(), SMALLEST);
+    assert!(rt; prints(rt.alloc(), &smallest(rt.alloc())?, SMALLEST)?);
     Ok(())
 }
 
@@ -299,11 +309,7 @@ end
 
 #[test]
 fn each_line(rt: HostRuntime) -> Result<(), Fail> {
-    let alloc = rt.alloc();
-    let cfg = with_each_line(alloc)?;
-    let mut sink = QuietSink::new(alloc, 1000)?;
-    print_machine(&cfg, &mut sink)?;
-    assert_eq!(rt; sink.bytes(), EACH_LINE);
+    assert!(rt; prints(rt.alloc(), &with_each_line(rt.alloc())?, EACH_LINE)?);
     Ok(())
 }
 
@@ -316,8 +322,6 @@ fn random_replicas(rt: HostRuntime) -> Result<(), Fail> {
         b: 4_294_967_295,
     };
     let cfg = config(alloc, 1, PolicyKind::Replicate, plan, &[], &[], &[], guests)?;
-    let mut sink = QuietSink::new(alloc, 1000)?;
-    print_machine(&cfg, &mut sink)?;
     let text = b"platinum 1
 nodes 1
 frames 1
@@ -329,16 +333,12 @@ schedule random 7 4294967295
 guest 1
 end
 ";
-    assert_eq!(rt; sink.bytes(), text.as_slice());
+    assert!(rt; prints(alloc, &cfg, text)?);
     Ok(())
 }
 
 #[test]
 fn full_sink(rt: HostRuntime) -> Result<(), Fail> {
-    let alloc = rt.alloc();
-    let cfg = smallest(alloc)?;
-    let mut sink = QuietSink::new(alloc, 15)?;
-    assert_eq!(rt; print_machine(&cfg, &mut sink), Err(WriteFault));
-    assert_eq!(rt; sink.bytes(), b"platinum 1\nnode".as_slice());
+    assert!(rt; breaks_off(rt.alloc(), &smallest(rt.alloc())?, b"platinum 1\nnode")?);
     Ok(())
 }

@@ -1,6 +1,5 @@
 use Rattle.std.proofs.Common.{◌≡◌, ◌<◌, ℕ, List, length, refl, ap, sym, subst, ◌∙◌, arith}
 use Rattle.plat_base.specs.Rooms.{JournalsSeen}
-use Rattle.plat_base.specs.Seen.{machine}
 use Rattle.plat_base.specs.declared.limits.TheConstants.{MOST_ITEMS}
 use Rattle.plat_base.specs.declared.items.Item.{Item}
 use Rattle.plat_events.specs.Merges.{merged}

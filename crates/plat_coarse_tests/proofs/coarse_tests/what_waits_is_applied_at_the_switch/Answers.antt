@@ -4,6 +4,6 @@ use Rattle.plat_base.specs.Canon.{is_short, canon_text}
 use Rattle.plat_coarse_tests.proofs.coarse_tests.what_waits_is_applied_at_the_switch.Goals as goal
 
 -- the canonical text is computed
-pub pair-requires-clause-short : goal.pair-requires-clause-short
+pub pair_comes_to-requires-clause-short : goal.pair_comes_to-requires-clause-short
 unfolding is_short canon_text digits
-pair-requires-clause-short g c = refl
+pair_comes_to-requires-clause-short g c = refl

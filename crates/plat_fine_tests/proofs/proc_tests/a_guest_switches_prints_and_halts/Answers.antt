@@ -1,4 +1,4 @@
-use Rattle.std.proofs.Common.{refl, rules}
+use Rattle.std.proofs.Common.{refl}
 use Rattle.std.specs.Fmt.{digits}
 use Rattle.plat_base.specs.Canon.{is_short, canon_text}
 use Rattle.plat_fine_tests.proofs.proc_tests.a_guest_switches_prints_and_halts.Goals as goal
@@ -7,6 +7,3 @@ use Rattle.plat_fine_tests.proofs.proc_tests.a_guest_switches_prints_and_halts.G
 pub one_node-requires-clause-short : goal.one_node-requires-clause-short
 unfolding is_short canon_text digits
 one_node-requires-clause-short g c = refl
-
-pub loop-preserved : goal.loop-preserved
-loop-preserved g c = record { live = c.step.ensures.live (search rules); fits = c.step.ensures.fits; words = c.step.ensures.words }

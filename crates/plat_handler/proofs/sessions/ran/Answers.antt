@@ -6,7 +6,7 @@ use Rattle.plat_base.specs.declared.words.WordName.{WordName}
 use Rattle.plat_events.specs.Events.{is_followed}
 use Rattle.plat_events.specs.Sessions.{session_next}
 use Rattle.plat_handler.specs.Phases.{answer_of, session_seen, phase_seen, posts_in}
-use Rattle.plat_handler.proofs.SettledLemmas.{enters_of, then_shoots_of, stage-runs, next-posts}
+use Rattle.plat_handler.proofs.SettledLemmas.{enters_of, then_shoots_of, stage-runs, stage-stays, next-posts}
 use Rattle.plat_handler.proofs.StandingLemmas.{early-shoot_fits, posts_suit-early}
 use Rattle.plat_handler.proofs.sessions.ran.Goals as goal
 
@@ -20,6 +20,12 @@ entered-requires c =
           (c.after.ensures.phase posts (posts_suit-early seen posts c.args.phase early)) early;
     }
 
+pub returns-then-not-is_followed-clause-stage : goal.returns-then-not-is_followed-clause-stage
+returns-then-not-is_followed-clause-stage c =
+    let lock = c.args.lock.now in
+    stage-stays (machine c.args.cfg.now) lock (posts_in c.args.shoot.now) c.args.old c.args.phase
+    (sym (c.is_followed.ensures lock) ∙ grind (arith, nat_tests, c.if-not-is_followed.true))
+
 pub returns-in_default : goal.returns-in_default
 returns-in_default c =
     let m = machine c.args.cfg.now in let lock = c.args.lock.now in let seen = c.args.shoot.now in let posts = posts_in seen in
@@ -28,7 +34,7 @@ returns-in_default c =
     (session_seen lock (phase_seen posts c.args.phase)) (phase_seen posts c.args.phase))) c.args.old ≡ true =
     ap (λ (x : WordName × Op). is_followed m (Some x) c.args.old)
     (sym (next-posts m lock posts c.args.old c.args.phase))
-    ∙ sym c.is_followed.ensures ∙ grind (arith, nat_tests, c.if-not-is_followed.false) in
+    ∙ sym (c.is_followed.ensures lock) ∙ grind (arith, nat_tests, c.if-not-is_followed.false) in
     record {
       shoots = c.entered.ensures.shoots;
       stage = c.entered.ensures.stage

@@ -1,5 +1,3 @@
-use Rattle.std.proofs.Common.{◌≡◌, Result, Ok, Err, sym, ◌∙◌}
-use Rattle.std.proofs.lemmas.Result.{MatchResult-at_ok}
 use Rattle.plat_machine.proofs.WholeLaws.{gives-found, gives-only, text-takes, text-again}
 use Rattle.plat_machine.proofs.whole.parse.Goals as goal
 

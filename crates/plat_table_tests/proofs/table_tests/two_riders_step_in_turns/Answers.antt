@@ -2,8 +2,8 @@ use Rattle.plat_base.specs.Seen.{machine}
 use Rattle.plat_table_tests.proofs.TableTriedLemmas.{first_half, second_half}
 use Rattle.plat_table_tests.proofs.table_tests.two_riders_step_in_turns.Goals as goal
 
-pub loop-init : goal.loop-init
-loop-init g c =
+pub ride-requires : goal.ride-requires
+ride-requires g c =
     let m = machine c.in_ok-adding.field-0 in
     record {
       rider = c.split-other.ensures.of.0;

@@ -37,6 +37,7 @@ returns-in-Locking-clause-fits c =
     (sym c.in-Locking.is))
     (subst (λ (o : Option ShootSeen). StageShoots m lock.actor lock.tick o (stage_seen lock o stage))
     (sym none) c.locked-self-inside.ensures.shoots)
+    c.locked-self-inside.ensures.tried
 
 pub returns-in-Running-clause-own : goal.returns-in-Running-clause-own
 returns-in-Running-clause-own c =
@@ -53,7 +54,7 @@ returns-in-Running-clause-fits c =
     (c.ran-self-inside.ensures.stage
     ∙ ap (λ (st : Stage). stage_after m (answer_of m) it.lock.actor it.lock.tick c.args.old (stage_seen it.lock it.shoot st))
     (sym c.in-Running.is))
-    c.ran-self-inside.ensures.shoots
+    c.ran-self-inside.ensures.shoots before.tried
 
 pub returns-in-Shooting-clause-own : goal.returns-in-Shooting-clause-own
 returns-in-Shooting-clause-own c =
@@ -75,4 +76,4 @@ returns-in-Shooting-clause-fits c =
     (c.shot-stage.ensures.stage
     ∙ ap (λ (st : Stage). stage_after m (answer_of m) it.lock.actor it.lock.tick c.args.old (stage_seen it.lock it.shoot st))
     (sym c.in-Shooting.is))
-    c.shot-stage.ensures.shoots
+    c.shot-stage.ensures.shoots before.tried

@@ -1,4 +1,4 @@
-use Rattle.std.proofs.Common.{◌∙◌, arith}
+use Rattle.std.proofs.Common.{arith}
 use Rattle.plat_machine.proofs.LabelLemmas.{named_push, length_push_one}
 use Rattle.plat_machine.proofs.bodies.Body.keep.Goals as goal
 

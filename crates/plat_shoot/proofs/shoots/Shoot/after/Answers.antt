@@ -1,8 +1,7 @@
-use Rattle.std.proofs.Common.{◌≡◌, ℕ, List, true, ap, sym, ◌∙◌, subst}
+use Rattle.std.proofs.Common.{◌≡◌, true, sym, ◌∙◌, subst}
 use Rattle.std.proofs.lemmas.Bool.Decides.{nat_tests}
 use Rattle.std.proofs.Common.{arith}
 use Rattle.plat_base.specs.Seen.{machine}
-use Rattle.plat_base.specs.declared.words.WordName.{WordName}
 use Rattle.plat_events.specs.Places.{is_word}
 use Rattle.plat_events.specs.Shootdowns.{shot_next}
 use Rattle.plat_shoot.specs.Steps.{shot_seen, shoot_seen, ShootFits}
@@ -18,9 +17,7 @@ returns-clause-fits c =
     let before = subst (λ (s : ShootSeen). ShootsOn m s) (sym c.self.view_is) c.requires.fits in
     let fits = subst (λ (st : Step). ShootFits m o.actor o.page (shoot_seen posts st)) c.in-Makes.is before.shoot in
     let name : is_word m (shot_next m o.actor o.page o.removed posts shot).0 c.args.old ≡ true =
-    ap (λ (ps : List ℕ). is_word m (shot_next m o.actor o.page o.removed ps shot).0 c.args.old) (sym c.as_slice.ensures.value)
-    ∙ ap (λ (x : WordName). is_word m x c.args.old) (sym c.name_of-name.ensures)
-    ∙ sym c.is_word.ensures ∙ grind (arith, nat_tests, c.if-not-is_word.false) in
+    sym (c.may_find.ensures o.actor o.page o.removed posts) ∙ grind (arith, nat_tests, c.if-not-may_find.false) in
     record {
       actor = before.actor;
       page = before.page;

@@ -1,6 +1,6 @@
 use Rattle.std.proofs.Common.{◌≡◌, [], ◌∷◌}
 use Rattle.plat_table.specs.Riders.{IsOf, numbers_of}
-use Rattle.plat_table_tests.proofs.table_tests.two_riders_step_in_turns.Given as goal
+use Rattle.plat_table_tests.proofs.table_tests.ride.Given as goal
 
 abbrev pub invariant-loop : goal.invariant-loop
 invariant-loop g l = record {
