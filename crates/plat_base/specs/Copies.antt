@@ -2,6 +2,7 @@
 use Rattle.std.specs.Prelude.{ℕ, ◌+◌, ◌==◌, nat_lt, if◌then◌else◌, not, List, [], ◌∷◌, find, filter, Option, Bool, true, ◌&&◌, IsTrue}
 use lib.Pointwise.{pointwise}
 use Rattle.plat_base.specs.declared.frames.Frame.{Frame}
+use Rattle.plat_base.specs.declared.limits.TheConstants.{MODULES, FRAMES}
 
 -- the copy on a module
 abbrev pub copy_on : ℕ → List Frame → Option Frame
@@ -23,11 +24,11 @@ same_frame f g = f.module == g.module && f.number == g.number
 abbrev pub same_frames : List Frame → List Frame → Bool
 same_frames = pointwise same_frame
 
--- the modules rise, from low on and below 8, and the numbers are below 64
+-- the modules rise, from low on, and modules and numbers are within the limits
 abbrev pub are_copies_from : ℕ → List Frame → Bool
 are_copies_from low [] = true
 are_copies_from low (f ∷ fs) =
-    (not (nat_lt f.module low) && nat_lt f.module 8 && nat_lt f.number 64) && are_copies_from (f.module + 1) fs
+    (not (nat_lt f.module low) && nat_lt f.module MODULES && nat_lt f.number FRAMES) && are_copies_from (f.module + 1) fs
 
 abbrev pub AreCopies : List Frame → Type 0
 AreCopies fs = IsTrue (are_copies_from 0 fs)

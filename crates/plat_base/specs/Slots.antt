@@ -1,4 +1,4 @@
--- the fixed array behind the copies of a page: for each module a frame's number, or 64 for none
+-- the fixed array behind the copies of a page: for each module a frame's number, or FRAMES for none
 use Rattle.std.specs.Prelude.{◌≡◌, ℕ, ◌+◌, ◌==◌, nat_lt, if◌then◌else◌, List, [], ◌∷◌, length}
 use Rattle.std.specs.List.{list_all}
 use Rattle.std.specs.Prelude.{nat_le, IsTrue, zero, suc, ◌<◌, refl}
@@ -8,23 +8,24 @@ use Rattle.std.specs.Cmp.{IsEquivalence, and_equiv, on_equiv, nat_eq_equiv}
 use Rattle.std.specs.Cmp.Lexicographic.{lists_equiv}
 use Rattle.plat_base.specs.Copies.{same_frames}
 use Rattle.plat_base.specs.declared.frames.Frame.{Frame}
+use Rattle.plat_base.specs.declared.limits.TheConstants.{MODULES, FRAMES}
 
 -- the frames that the slots name, the first slot being that of module m
 abbrev pub frames_from : ℕ → List ℕ → List Frame
 frames_from m [] = []
 frames_from m (s ∷ ss) =
-    if nat_lt s 64 then record { «module» = m; number = s } ∷ frames_from (m + 1) ss else frames_from (m + 1) ss
+    if nat_lt s FRAMES then record { «module» = m; number = s } ∷ frames_from (m + 1) ss else frames_from (m + 1) ss
 
 -- the slots, from module m on, of frames whose modules rise
 abbrev pub slots_from : ℕ → ℕ → List Frame → List ℕ
 slots_from m zero fs = []
-slots_from m (suc k) [] = 64 ∷ slots_from (m + 1) k []
-slots_from m (suc k) (f ∷ fs) = if f.module == m then f.number ∷ slots_from (m + 1) k fs else 64 ∷ slots_from (m + 1) k (f ∷ fs)
+slots_from m (suc k) [] = FRAMES ∷ slots_from (m + 1) k []
+slots_from m (suc k) (f ∷ fs) = if f.module == m then f.number ∷ slots_from (m + 1) k fs else FRAMES ∷ slots_from (m + 1) k (f ∷ fs)
 
--- eight slots, each a frame's number or 64
+-- a slot for each module, each a frame's number or FRAMES
 pub record AreSlots (slots : List ℕ) : Type 0 where
-  pub eight : length slots ≡ 8
-  pub within : IsTrue (list_all (λ s. nat_le s 64) slots)
+  pub eight : length slots ≡ MODULES
+  pub within : IsTrue (list_all (λ s. nat_le s FRAMES) slots)
 
 -- a module below those of the frames has no slot
 slots_from-below : (m n k : ℕ) (ss : List ℕ) → m < n → slots_from m (suc k) (frames_from n ss)

@@ -1,7 +1,9 @@
 //! Frames of memory modules, the copies of a page, and its directory.
 ghost use Rattle.std.specs.Prelude.{◌≡◌, ◌<◌, [], length};
 ghost use Rattle.plat_base.specs.Copies.{copy_on, with_frame, without_module, same_frames, AreCopies};
+ghost use Rattle.plat_base.specs.declared.limits.TheConstants.{MODULES, FRAMES};
 
+use crate::limits::{FRAMES, MODULES};
 use std::marker::Model;
 
 /// One frame of physical memory: the number of its module, which is that of its node (0 to 7), and its number within that
@@ -29,7 +31,7 @@ pub enum State {
 /// module.
 #[derive(Clone, Copy, Debug)]
 pub struct Copies {
-    slots: [u8; 8],
+    slots: [u8; SLOTS],
 }
 
 impl Model for Copies {
@@ -51,7 +53,10 @@ impl Model for Copies {
 }
 
 /// What a slot holds where its module has no copy.
-const NO_FRAME: u8 = 64;
+const NO_FRAME: u8 = FRAMES as u8;
+
+/// The number of slots: one for each module.
+const SLOTS: usize = MODULES as usize;
 
 impl Copies {
     /// No copy.
@@ -59,14 +64,14 @@ impl Copies {
         ensures { result ≡ [] }
     {
         Copies {
-            slots: [NO_FRAME; 8],
+            slots: [NO_FRAME; SLOTS],
         }
     }
 
     /// These copies, with `frame` as its module's copy.
     pub fn with(self, frame: Frame) -> Copies
-        requires module { frame.module < 8 }
-        requires number { frame.number < 64 }
+        requires module { frame.module < MODULES }
+        requires number { frame.number < FRAMES }
         ensures { result ≡ with_frame frame self }
     {
         let mut slots = self.slots;
@@ -76,7 +81,7 @@ impl Copies {
 
     /// These copies, without the copy on the module of `node`.
     pub fn without(self, node: u32) -> Copies
-        requires { node < 8 }
+        requires { node < MODULES }
         ensures { result ≡ without_module node self }
     {
         let mut slots = self.slots;
@@ -86,7 +91,7 @@ impl Copies {
 
     /// The copy on the module of `node`, if it has one.
     pub fn on(&self, node: u32) -> Option<Frame>
-        requires { node < 8 }
+        requires { node < MODULES }
         ensures { result ≡ copy_on node self.now }
     {
         let number = self.slots[node as usize];

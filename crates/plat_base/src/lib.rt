@@ -30,7 +30,7 @@ pub use items::{
 pub use journals::Journals;
 pub use limits::{
     ACTORS, BUDGET, ENTRIES, FRAMES, INSTRUCTIONS, LABELS, LISTED, MODULES, MOST_ITEMS, MOST_TURNS,
-    PAGES, REGISTERS, SPACES, VIRTUAL_PAGES,
+    PAGE_WORDS, PAGES, REGISTERS, SPACES, VIRTUAL_PAGES, WORDS,
 };
 pub use lists::List;
 pub use names::Name;

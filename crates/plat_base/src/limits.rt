@@ -8,6 +8,10 @@ pub const ACTORS: u32 = MODULES + 1;
 pub const FRAMES: u32 = 64;
 /// The most coherent pages.
 pub const PAGES: u32 = 64;
+/// The most words of a page; its size is a power of two from 4 on.
+pub const PAGE_WORDS: u32 = 64;
+/// The most words of memory.
+pub const WORDS: u32 = PAGES * PAGE_WORDS;
 /// The number of address spaces; they are numbered from 0.
 pub const SPACES: u32 = 8;
 /// The number of virtual pages in a space; they are numbered from 0.

@@ -2,6 +2,7 @@
 use Rattle.std.specs.Prelude.{◌≡◌, ℕ, ◌+◌, ◌≤◌, List, ◌++◌, length}
 use Rattle.plat_base.specs.Machine.{Machine}
 use Rattle.plat_base.specs.declared.items.Item.{Item}
+use Rattle.plat_base.specs.declared.limits.TheConstants.{MOST_ITEMS}
 use Rattle.plat_chronicle.specs.Present.{PresentSeen, Shows}
 
 -- a machine's history so far, and how many more items it takes without memory
@@ -12,7 +13,7 @@ pub record Chronicled : Type 0 where
 
 -- the most items of a history
 abbrev pub most_items : ℕ
-most_items = 2621440
+most_items = MOST_ITEMS
 
 -- there is room for these items
 pub record HasRoom (before : Chronicled) (more : List Item) : Type 0 where

@@ -7,6 +7,7 @@ ghost use Rattle.plat_base.specs.Flat.{flat_value, flat_writes};
 ghost use Rattle.plat_base.specs.Held.{held, active, removes_all, removes_writes};
 ghost use Rattle.plat_base.specs.Rules.{is_legal};
 ghost use Rattle.plat_base.specs.declared.items.Item.TheVariants as item;
+ghost use Rattle.plat_base.specs.declared.limits.TheConstants.{MOST_ITEMS};
 ghost use Rattle.plat_chronicle.specs.Chronicle.{HasAdded, HasRoom};
 
 use crate::present::Present;
@@ -62,7 +63,7 @@ impl Chronicle {
     /// The items.
     pub fn items(&self) -> &[Item]
         ensures items { result.now ≡ self.now.items }
-        ensures few { length self.now.items ≤ 2621440 }
+        ensures few { length self.now.items ≤ MOST_ITEMS }
     {
         self.items.as_slice()
     }
@@ -105,7 +106,7 @@ impl Chronicle {
         requires page { page < self.now.machine.pages }
         requires word { word < self.now.machine.words }
         ensures value { result ≡ flat_writes self.now.items page word }
-        ensures few { result ≤ 2621440 }
+        ensures few { result ≤ MOST_ITEMS }
     {
         self.present.version(page, word)
     }
@@ -188,7 +189,7 @@ impl Chronicle {
     pub fn finish(self) -> (Config, List<Item>)
         ensures machine { machine result.0 ≡ self.machine }
         ensures items { result.1.items ≡ self.items }
-        ensures few { length self.items ≤ 2621440 }
+        ensures few { length self.items ≤ MOST_ITEMS }
     {
         (self.cfg, self.items)
     }

@@ -10,6 +10,7 @@ ghost use Rattle.plat_coarse.specs.Acted.{value_found, IsReachable, made_through
 ghost use Rattle.plat_coarse.specs.Advanced.{no_guest, guests_after};
 ghost use Rattle.plat_guest.specs.GuestSeen.{wanted_by};
 ghost use Rattle.plat_base.specs.Seen.{machine};
+ghost use Rattle.plat_base.specs.declared.limits.TheConstants.{MOST_ITEMS};
 ghost use Rattle.std.specs.Prelude.{slice_index_or};
 ghost use Rattle.plat_chronicle.specs.Chronicle.{HasAdded, HasRoom};
 ghost use Rattle.plat_coarse.specs.Running.{state_of, made_now, daemon_now};
@@ -191,7 +192,7 @@ pub fn daemon<P: Policy>(chronicle: &mut Chronicle, policy: &P, ends: &[Ended], 
     requires sound { Sound chronicle.old.machine (P.answer policy.now) (state_of chronicle.old ends.now) }
     requires spare { length (daemon_now chronicle.old (P.answer policy.now) ends.now now).history
         ≤ length chronicle.old.items + chronicle.old.spare }
-    requires few { length (daemon_now chronicle.old (P.answer policy.now) ends.now now).history ≤ 2621440 }
+    requires few { length (daemon_now chronicle.old (P.answer policy.now) ends.now now).history ≤ MOST_ITEMS }
     ensures machine { chronicle.new.machine ≡ chronicle.old.machine }
     ensures items { state_of chronicle.new ends.now
         ≡ daemon_now chronicle.old (P.answer policy.now) ends.now now }

@@ -5,6 +5,7 @@ ghost use Rattle.plat_base.specs.Turns.{change_by};
 ghost use Rattle.std.specs.Prelude.{◌&&◌, is_none};
 ghost use Rattle.plat_base.specs.Decide.{is_dir, is_empty, asks as asks_of};
 ghost use Rattle.plat_base.specs.Directories.{dir_of};
+ghost use Rattle.plat_base.specs.declared.limits.TheConstants.{MODULES, MOST_ITEMS};
 ghost use Rattle.plat_coarse.specs.Reached.{decided_if_fed};
 ghost use Rattle.plat_chronicle.specs.Chronicle.{HasAdded, HasRoom};
 ghost use Rattle.plat_coarse.specs.Running.{state_of, fault_items_now, fault_made_now, thawed_now};
@@ -18,7 +19,7 @@ use plat_policy::decide;
 
 /// Whether the policy is asked about a fault: the page has copies, and none on the node.
 fn asks(dir: &Dir, node: u32) -> bool
-    requires { node < 8 }
+    requires { node < MODULES }
     ensures read { result ≡ asks_of Cause.Read dir.now node }
     ensures write { result ≡ asks_of Cause.Write dir.now node }
 {
@@ -201,7 +202,7 @@ pub fn thaw<P: Policy>(chronicle: &mut Chronicle, policy: &P, ends: &[Ended], pa
     requires spare { length (thawed_now chronicle.old (P.answer policy.now) ends.now now page).history
         ≤ length chronicle.old.items + chronicle.old.spare }
     requires few { length (thawed_now chronicle.old (P.answer policy.now) ends.now now
-        page).history ≤ 2621440 }
+        page).history ≤ MOST_ITEMS }
     ensures machine { chronicle.new.machine ≡ chronicle.old.machine }
     ensures items { state_of chronicle.new ends.now
         ≡ thawed_now chronicle.old (P.answer policy.now) ends.now now page }

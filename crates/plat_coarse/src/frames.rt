@@ -2,23 +2,28 @@
 ghost use Rattle.std.specs.Prelude.{◌≡◌, ℕ, ◌<◌, ◌==◌, if◌then◌else◌};
 ghost use Rattle.std.specs.Int.{bit_at};
 ghost use Rattle.plat_base.specs.Frames.{is_used, free_frame, nearest_free};
+ghost use Rattle.plat_base.specs.declared.limits.TheConstants.{MODULES, FRAMES};
 ghost use Rattle.plat_coarse.specs.Nearer.{nearer_of};
 
-use plat_base::Frame;
+use plat_base::{FRAMES, Frame};
 use plat_chronicle::Chronicle;
 use plat_policy::distance;
 
 /// The set with this number, if it is below 64: the bit of each number in it is set.
 fn with_number(set: u64, number: u32) -> u64
-    ensures { (n : ℕ) → n < 64 → bit_at result n ≡ (if number == n then 1 else bit_at set n) }
+    ensures { (n : ℕ) → n < FRAMES → bit_at result n ≡ (if number == n then 1 else bit_at set n) }
 {
-    if number < 64 { set | 1 << number } else { set }
+    if number < FRAMES {
+        set | 1 << number
+    } else {
+        set
+    }
 }
 
 /// The set of the numbers of a module's frames that are copies of pages.
 fn used_numbers(chronicle: &Chronicle, module: u32) -> u64
-    requires { «module» < 8 }
-    ensures { (number : ℕ) → number < 64 →
+    requires { «module» < MODULES }
+    ensures { (number : ℕ) → number < FRAMES →
         (bit_at result number == 1) ≡ is_used chronicle.now.machine chronicle.now.items «module» number }
 {
     let mut used = 0;
@@ -32,7 +37,7 @@ fn used_numbers(chronicle: &Chronicle, module: u32) -> u64
 
 /// The free frame of a module that has the lowest number.
 pub fn free_frame(chronicle: &Chronicle, module: u32) -> Option<Frame>
-    requires { «module» < 8 }
+    requires { «module» < MODULES }
     ensures { result ≡ free_frame chronicle.now.machine chronicle.now.items «module» }
 {
     let number = used_numbers(chronicle, module).trailing_ones();

@@ -5,6 +5,7 @@ ghost use Rattle.plat_base.specs.Coarse.{coarse_start};
 ghost use Rattle.plat_base.specs.Turns.{turn as turn_of};
 ghost use Rattle.plat_base.specs.Rules.{Good};
 ghost use Rattle.plat_base.specs.Seen.{machine};
+ghost use Rattle.plat_base.specs.declared.limits.TheConstants.{MOST_ITEMS};
 ghost use Rattle.plat_coarse_laws.specs.Room.{room as room_of, passes};
 ghost use Rattle.plat_coarse.specs.CoarseSeen.{turned_of};
 
@@ -76,7 +77,7 @@ fn most_passes(cfg: &Config) -> u32
 /// How many items the history of a machine can have: four for each turn, and one for each page at each pass of the daemon.
 fn room(cfg: &Config) -> u32
     ensures value { result ≡ room_of (machine cfg.now) }
-    ensures few { result ≤ 2621440 }
+    ensures few { result ≤ MOST_ITEMS }
 {
     4 * most_turns(cfg) + cfg.pages * most_passes(cfg)
 }

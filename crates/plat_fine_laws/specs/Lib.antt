@@ -1,3 +1,4 @@
 pub mod Changes
 pub mod Placed
 pub mod Outside
+pub mod Keeping

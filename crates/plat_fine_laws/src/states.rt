@@ -2,12 +2,11 @@
 ghost use Rattle.std.specs.Prelude.{◌≡◌, ◌<◌, ℕ, true, IsTrue};
 ghost use Rattle.plat_base.specs.Seen.{machine};
 ghost use Rattle.plat_events.specs.Places.{entry_count};
-ghost use Rattle.plat_events.specs.Privates.{actor_count};
-ghost use Rattle.plat_events.specs.Kept.{private_of};
 ghost use Rattle.plat_events.specs.Views.{view};
-ghost use Rattle.plat_events.specs.Runs.{Fine, fine_start, event};
+ghost use Rattle.plat_events.specs.Runs.{Fine, fine_start};
 ghost use Rattle.plat_events.specs.Shown.{Shows};
 ghost use Rattle.plat_views.specs.Facts.{ViewFacts};
+ghost use Rattle.plat_fine_laws.specs.Keeping.{KeepsShown};
 ghost use Rattle.plat_fine_laws.specs.Outside.{is_outside};
 
 use plat_base::{Config, Policy};
@@ -22,8 +21,5 @@ pub fn any_policy_shows<P: Policy>(cfg: &Config, policy: &P)
     ensures facts { (s : Fine) (q e : ℕ) → Shows (machine cfg.now) (P.answer policy.now) s
         → q < (machine cfg.now).nodes → e < entry_count (machine cfg.now)
         → ViewFacts (view (machine cfg.now) (P.answer policy.now) s q e) }
-    ensures kept { (s : Fine) (a : ℕ) → Shows (machine cfg.now) (P.answer policy.now) s →
-        a < actor_count (machine cfg.now)
-        → IsTrue (is_outside (private_of (machine cfg.now) s a).place)
-        → Shows (machine cfg.now) (P.answer policy.now) (event (machine cfg.now) (P.answer policy.now) s a) }
+    ensures kept { KeepsShown (machine cfg.now) (P.answer policy.now) (λ place. IsTrue (is_outside place)) }
 {}

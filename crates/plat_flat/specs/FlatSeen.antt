@@ -5,6 +5,7 @@ use Rattle.plat_base.specs.Flat.{flat_value, flat_writes}
 use Rattle.plat_base.specs.Rules.{is_legal}
 use Rattle.plat_base.specs.declared.items.Item.{Item}
 use Rattle.plat_base.specs.declared.items.Item.TheVariants as item
+use Rattle.plat_base.specs.declared.limits.TheConstants.{PAGES, PAGE_WORDS}
 
 -- the words of all pages, one page after another: their values, and how often each was written
 pub record FlatSeen : Type 0 where
@@ -18,8 +19,8 @@ abbrev pub place : (words page word : ℕ) → ℕ
 place words page word = page * words + word
 
 pub record FitsPages (pages words : ℕ) (vs ws : List ℕ) : Type 0 where
-  pub few_pages : pages ≤ 64
-  pub few_words : words ≤ 64
+  pub few_pages : pages ≤ PAGES
+  pub few_words : words ≤ PAGE_WORDS
   pub values : length vs ≡ pages * words
   pub versions : length ws ≡ pages * words
 

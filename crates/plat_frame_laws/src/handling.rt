@@ -1,10 +1,7 @@
 //! The law of the operations that handle frames.
-ghost use Rattle.std.specs.Prelude.{◌<◌, ℕ, IsTrue};
+ghost use Rattle.std.specs.Prelude.{IsTrue};
 ghost use Rattle.plat_base.specs.Seen.{machine};
-ghost use Rattle.plat_events.specs.Privates.{actor_count};
-ghost use Rattle.plat_events.specs.Kept.{private_of};
-ghost use Rattle.plat_events.specs.Runs.{Fine, event};
-ghost use Rattle.plat_events.specs.Shown.{Shows};
+ghost use Rattle.plat_fine_laws.specs.Keeping.{KeepsShown};
 ghost use Rattle.plat_frame_laws.specs.Handling.{handles_frames};
 
 use plat_base::{Config, Policy};
@@ -14,8 +11,5 @@ use plat_base::{Config, Policy};
 /// every store of an initial value in the frame of a fill, every load of a word for a copy and its store, and every frame
 /// that is given back.
 pub fn any_policy_frames<P: Policy>(cfg: &Config, policy: &P)
-    ensures { (s : Fine) (a : ℕ) → Shows (machine cfg.now) (P.answer policy.now) s →
-        a < actor_count (machine cfg.now)
-        → IsTrue (handles_frames (private_of (machine cfg.now) s a).place)
-        → Shows (machine cfg.now) (P.answer policy.now) (event (machine cfg.now) (P.answer policy.now) s a) }
+    ensures { KeepsShown (machine cfg.now) (P.answer policy.now) (λ place. IsTrue (handles_frames place)) }
 {}

@@ -10,6 +10,7 @@ use Rattle.plat_base.specs.declared.faults.Why.TheVariants as why
 use Rattle.plat_base.specs.declared.guests.Instr.{Instr}
 use Rattle.plat_base.specs.declared.guests.Instr.TheVariants as instr
 use Rattle.plat_base.specs.declared.guests.Label.{Label}
+use Rattle.plat_base.specs.declared.limits.TheConstants.{REGISTERS, INSTRUCTIONS}
 
 -- ---- instructions
 
@@ -27,11 +28,11 @@ pub record Draft : Type 0 where
 abbrev pub plain : Instr → Draft
 plain i = record { instr = i; target = None }
 
-abbrev pub register_below_16 : ℕ → Result ℕ Why
-register_below_16 n = if nat_lt n 16 then Ok n else Err why.BadRegister
+abbrev pub register_within : ℕ → Result ℕ Why
+register_within n = if nat_lt n REGISTERS then Ok n else Err why.BadRegister
 
 abbrev pub numbered_register : Result ℕ Why → Result ℕ Why
-numbered_register (Ok n) = register_below_16 n
+numbered_register (Ok n) = register_within n
 numbered_register (Err fault) = Err why.BadRegister
 
 -- r0 to r15
@@ -131,7 +132,7 @@ instructions =
 -- an instruction after so many
 unfoldable pub instruction_line : ℕ → Row → Result Draft Refused
 instruction_line count row = word_at row >>= λ w.
-    (if nat_le 4096 count
+    (if nat_le INSTRUCTIONS count
     then Err (refused row.line w.0.column why.TooMany)
     else chosen instructions (refused row.line w.0.column why.UnknownInstruction) w.0.bytes w.1)
 

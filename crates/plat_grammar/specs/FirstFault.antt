@@ -1,6 +1,6 @@
 -- the reading of a whole machine text over its rows: the machine, or the first fault
 use Rattle.std.specs.Prelude.{ℕ, zero, suc, ◌+◌, ◌==◌, nat_lt, nat_le, Bool, ◌||◌, if◌then◌else◌, List, [], ◌∷◌, ◌++◌, length, Result, Ok}
-use Rattle.std.specs.Prelude.{Err, bytes_eq, codes}
+use Rattle.std.specs.Prelude.{◌-◌, Err, bytes_eq, codes}
 use Rattle.plat_grammar.specs.Lines.{number_of}
 use Rattle.plat_grammar.specs.Forms.{◌>>=◌, Row, Rest, Stop, rows_of, refused, missing, row_at, word_at, first_word, read_as}
 use Rattle.plat_grammar.specs.Forms.{one, exactly, number_in, any_number, number, below, nothing, ◌·◌, made, choice, listed, once, line_at}
@@ -18,6 +18,7 @@ use Rattle.plat_base.specs.declared.configs.Distance.{Distance}
 use Rattle.plat_base.specs.declared.configs.Entry.{Entry}
 use Rattle.plat_base.specs.declared.configs.Init.{Init}
 use Rattle.plat_base.specs.declared.guests.Label.{Label}
+use Rattle.plat_base.specs.declared.limits.TheConstants.{MODULES, FRAMES, PAGES, BUDGET, LABELS, LISTED, SPACES, VIRTUAL_PAGES}
 
 -- ---- the lines before the guests
 
@@ -58,7 +59,7 @@ abbrev pub schedules : ℕ → List (List ℕ × (Row → Result Turns Refused))
 schedules nodes =
     (codes "robin", made (λ _. robin) nothing)
     ∷ (codes "random", random_line)
-    ∷ (codes "list", made turns_listed (listed (number_in 0 nodes) 4096))
+    ∷ (codes "list", made turns_listed (listed (number_in 0 nodes) LISTED))
     ∷ []
 
 abbrev pub schedule_line : ℕ → Row → Result Turns Refused
@@ -76,12 +77,12 @@ pub record Header : Type 0 where
 unfoldable pub header_at : Rest → Result (Header × Rest) Refused
 header_at rest = do
   version ← line_at (codes "platinum") version_line rest
-  nodes ← line_at (codes "nodes") (number_line 1 8) version.1
-  frames ← line_at (codes "frames") (number_line 1 64) nodes.1
+  nodes ← line_at (codes "nodes") (number_line 1 MODULES) version.1
+  frames ← line_at (codes "frames") (number_line 1 FRAMES) nodes.1
   words ← line_at (codes "words") size_line frames.1
-  pages ← line_at (codes "pages") (number_line 1 64) words.1
+  pages ← line_at (codes "pages") (number_line 1 PAGES) words.1
   policy ← line_at (codes "policy") policy_line pages.1
-  budget ← line_at (codes "budget") (number_line 1 65536) policy.1
+  budget ← line_at (codes "budget") (number_line 1 BUDGET) policy.1
   schedule ← line_at (codes "schedule") (schedule_line nodes.0) budget.1
   Ok (
     record {
@@ -112,7 +113,9 @@ distance_line nodes row = do
   Ok (record { a = a.0; b = b.0; d = d.0 })
 
 unfoldable pub entry_line : ℕ → Row → Result Entry Refused
-entry_line pages = made (λ x. record { space = x.0; vpage = x.1.0; page = x.1.1.0 }) (number 0 7 · number 0 63 · below pages · nothing)
+entry_line pages =
+    made (λ x. record { space = x.0; vpage = x.1.0; page = x.1.1.0 })
+    (number 0 (SPACES - 1) · number 0 (VIRTUAL_PAGES - 1) · below pages · nothing)
 
 unfoldable pub init_line : ℕ → ℕ → Row → Result Init Refused
 init_line pages words = made (λ x. record { page = x.0; word = x.1.0; value = x.1.1.0 }) (below pages · below words · any_number · nothing)
@@ -130,7 +133,7 @@ inits_at pages words = all_with (codes "init") same_word (init_line pages words)
 
 -- a label's name after so many
 abbrev pub name_after : ℕ → List ℕ → Result (List ℕ) Why
-name_after count word = if nat_le 256 count then Err why.TooMany else name_of word
+name_after count word = if nat_le LABELS count then Err why.TooMany else name_of word
 
 -- the label at this position, after these
 unfoldable pub label_line : ℕ → List Label → Row → Result Label Refused
@@ -160,7 +163,7 @@ body_at rest = body_from rest.stop [] [] rest.rows
 
 unfoldable pub guest_at : Rest → Result (Program × Rest) Refused
 guest_at rest = do
-  space ← line_at (codes "guest") (number_line 0 7) rest
+  space ← line_at (codes "guest") (number_line 0 (SPACES - 1)) rest
   body ← body_at space.1
   code ← code_from body.0.1 [] body.0.0
   Ok (record { space = space.0; code = code; labels = body.0.1 }, body.1)

@@ -32,6 +32,7 @@ use Rattle.plat_base.specs.declared.items.Switch.{Switch}
 use Rattle.plat_base.specs.declared.items.Item.{Item}
 use Rattle.plat_base.specs.declared.items.Item.TheVariants as item
 use Rattle.plat_base.specs.declared.endings.Ended.{Ended}
+use Rattle.plat_base.specs.declared.limits.TheConstants.{MOST_ITEMS}
 
 -- what a history text tells: the machine, the items in order, and how each processor ended, in rising number
 pub record History : Type 0 where
@@ -197,4 +198,4 @@ most_history_bytes = 268435456
 
 -- the most items that a history can have
 abbrev pub most_items : ℕ
-most_items = 2621440
+most_items = MOST_ITEMS

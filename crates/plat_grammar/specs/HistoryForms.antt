@@ -4,7 +4,7 @@ use Rattle.std.specs.Prelude.{codes, Option, Some, None, Result, Ok, Err, bytes_
 use Rattle.std.specs.List.{slice_split}
 use Rattle.std.specs.Fmt.{decimal}
 use Rattle.plat_base.specs.Machine.{Machine}
-use Rattle.plat_grammar.specs.Forms.{◌>>=◌, Row, one, exactly, number_below, any_number, number, below, nothing, ◌·◌, made, choice}
+use Rattle.plat_grammar.specs.Forms.{◌>>=◌, Row, one, exactly, number_below, any_number, number, below, nothing, choice}
 use Rattle.plat_grammar.specs.HistoryCanon.{point, colon, comma}
 use Rattle.plat_base.specs.declared.faults.Refused.{Refused}
 use Rattle.plat_base.specs.declared.faults.Why.{Why}
@@ -28,15 +28,12 @@ use Rattle.plat_base.specs.declared.items.Message.{Message}
 use Rattle.plat_base.specs.declared.items.Message.TheVariants as message
 use Rattle.plat_base.specs.declared.items.Moment.{Moment}
 use Rattle.plat_base.specs.declared.items.Moment.TheVariants as moment
-use Rattle.plat_base.specs.declared.items.Access.{Access}
-use Rattle.plat_base.specs.declared.items.Change.{Change}
-use Rattle.plat_base.specs.declared.items.Applied.{Applied}
-use Rattle.plat_base.specs.declared.items.Switch.{Switch}
 use Rattle.plat_base.specs.declared.items.Item.{Item}
 use Rattle.plat_base.specs.declared.items.Item.TheVariants as item
 use Rattle.plat_base.specs.declared.endings.End.{End}
 use Rattle.plat_base.specs.declared.endings.End.TheVariants as end
 use Rattle.plat_base.specs.declared.endings.Ended.{Ended}
+use Rattle.plat_base.specs.declared.limits.TheConstants.{BUDGET}
 
 -- ---- one of several words
 
@@ -269,6 +266,6 @@ unfoldable pub ended_line : ℕ → Row → Result Ended Refused
 ended_line q row = do
   node ← one (exactly (decimal q)) row
   end ← one (named endings) node.1
-  turns ← number 0 65536 end.1
+  turns ← number 0 BUDGET end.1
   over ← nothing turns.1
   Ok (record { end = end.0; turns = turns.0 })

@@ -17,6 +17,7 @@ use Rattle.plat_base.specs.declared.items.Switch.{Switch}
 use Rattle.plat_base.specs.declared.items.Item.{Item}
 use Rattle.plat_base.specs.declared.items.Item.TheVariants as item
 use Rattle.plat_base.specs.declared.endings.Ended.{Ended}
+use Rattle.plat_base.specs.declared.limits.TheConstants.{BUDGET}
 
 -- ---- ranges
 
@@ -71,7 +72,7 @@ IsTold m (item.Switch s) = IsToldSwitch m s
 
 -- the turns of an end may be as many as the largest budget, whatever the budget of the machine
 abbrev pub IsToldEnd : Ended → Type 0
-IsToldEnd e = e.turns ≤ 65536
+IsToldEnd e = e.turns ≤ BUDGET
 
 -- all numbers of a history are in range, that of its items included, and each node has an end
 pub record IsInRange (h : History) : Type 0 where

@@ -3,17 +3,18 @@ ghost use Rattle.std.specs.Prelude.{◌≡◌, ◌≢◌, ◌+◌, ◌%◌, ◌<
 ghost use Rattle.plat_base.specs.Machine.{program_seen, is_register, is_index, is_instr};
 ghost use Rattle.plat_base.specs.Seen.{machine};
 ghost use Rattle.plat_base.specs.GuestRun.{register, address, put, passed, gone, target, executed, access_or_trap};
+ghost use Rattle.plat_base.specs.declared.limits.TheConstants.{INSTRUCTIONS};
 ghost use Rattle.plat_guest.specs.GuestSeen.{new_guest, wanted_by, stepped, in_state};
 
 use crate::programs;
-use plat_base::{Config, GuestText, Instr, Kind, Want};
+use plat_base::{Config, GuestText, Instr, Kind, REGISTERS, Want};
 use std::marker::Model;
 
 /// A guest between two turns. Contracts see the node that it runs on, and its registers, position and active space.
 #[derive(Clone, Copy, Debug)]
 pub struct Guest {
     node: u32,
-    registers: [u32; 16],
+    registers: [u32; REGISTERS as usize],
     at: usize,
     space: u32,
 }
@@ -44,7 +45,7 @@ impl Guest {
     {
         Guest {
             node: q,
-            registers: [0; 16],
+            registers: [0; REGISTERS as usize],
             at: 0,
             space: programs::program(cfg, q).space,
         }
@@ -93,7 +94,7 @@ impl Guest {
 
     fn execute(&mut self, program: &GuestText, instr: Instr, value: u32)
         requires within { IsTrue (is_instr (length program.now.labels.items) instr) }
-        requires more { self.old.state.at < 4096 }
+        requires more { self.old.state.at < INSTRUCTIONS }
         ensures { self.new
             ≡ in_state self.old (executed (program_seen program.now) instr self.old.state value) }
     {
@@ -155,7 +156,7 @@ impl Guest {
     // Register d becomes the value, and the next instruction follows.
     fn put(&mut self, d: u32, value: u32)
         requires register { IsTrue (is_register d) }
-        requires more { self.old.state.at < 4096 }
+        requires more { self.old.state.at < INSTRUCTIONS }
         ensures { self.new ≡ in_state self.old (put self.old.state d value) }
     {
         self.registers[d as usize] = value;
@@ -164,7 +165,7 @@ impl Guest {
 
     // The next instruction follows.
     fn pass(&mut self)
-        requires { self.old.state.at < 4096 }
+        requires { self.old.state.at < INSTRUCTIONS }
         ensures { self.new ≡ in_state self.old (passed self.old.state) }
     {
         self.at += 1;
@@ -173,7 +174,7 @@ impl Guest {
     // Goes to the label where the test holds; else the next instruction follows.
     fn branch(&mut self, program: &GuestText, label: u32, goes: bool)
         requires label { label < length program.now.labels.items }
-        requires more { self.old.state.at < 4096 }
+        requires more { self.old.state.at < INSTRUCTIONS }
         ensures { let there = gone self.old.state (target (program_seen program.now) label) in
             self.new ≡ in_state self.old (if goes then there else passed self.old.state) }
     {

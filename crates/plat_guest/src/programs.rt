@@ -4,6 +4,7 @@ ghost use Rattle.plat_base.specs.Machine.{program_seen, is_program, is_instr};
 ghost use Rattle.plat_base.specs.Seen.{machine};
 ghost use Rattle.plat_base.specs.Pages.{program_of};
 ghost use Rattle.plat_base.specs.GuestRun.{target};
+ghost use Rattle.plat_base.specs.declared.limits.TheConstants.{INSTRUCTIONS};
 
 use plat_base::{Config, GuestText, Instr};
 
@@ -21,7 +22,7 @@ pub(crate) fn instruction(program: &GuestText, at: usize) -> Option<Instr>
     requires { IsTrue (is_program (program_seen program.now)) }
     ensures instr { result ≡ slice_get program.now.code.items at }
     ensures within { IfSome result (λ i. IsTrue (is_instr (length program.now.labels.items) i)) }
-    ensures below { IfSome result (λ _. at < 4096) }
+    ensures below { IfSome result (λ _. at < INSTRUCTIONS) }
 {
     program.code.as_slice().get(at).copied()
 }

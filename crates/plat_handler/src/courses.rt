@@ -1,6 +1,7 @@
 //! What follows each operation of a session, from the last to the first.
 ghost use Rattle.std.specs.Prelude.{◌≡◌, ℕ, ◌<◌, List, [], Some};
 ghost use Rattle.plat_base.specs.Seen.{machine};
+ghost use Rattle.plat_base.specs.declared.limits.TheConstants.{MODULES};
 ghost use Rattle.plat_handler.specs.Courses.{gives, fills, copies, follows_shot, starts, seeks, finds, takes, goes_on};
 ghost use Rattle.plat_handler.specs.Phases.{phase_seen, then_seen, PostsSuit};
 ghost use Rattle.plat_handler.specs.Decided.{Begins, Decides, RunsOn, RemovesSome};
@@ -95,7 +96,7 @@ fn seek_from(cfg: &Config, lock: &Lock, stamp: StampWord, passed: u32) -> Then
 /// A pool was found: an empty one leads to the next module.
 fn pool_found(cfg: &Config, lock: &Lock, stamp: StampWord, passed: u32, found: u64) -> Then
     requires seeks { Begins (machine cfg.now) lock.now }
-    requires few { passed < 8 }
+    requires few { passed < MODULES }
     ensures phase { then_seen (machine cfg.now) lock.now [] result
         ≡ finds (machine cfg.now) lock.now stamp passed found }
     ensures removed { RemovesSome (machine cfg.now) lock.now result }

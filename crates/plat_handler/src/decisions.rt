@@ -6,6 +6,7 @@ ghost use Rattle.plat_base.specs.Accesses.{right_of};
 ghost use Rattle.plat_base.specs.Copies.{AreCopies, same_frame};
 ghost use Rattle.plat_base.specs.Pages.{initial_value};
 ghost use Rattle.plat_base.specs.Seen.{machine};
+ghost use Rattle.plat_base.specs.declared.limits.TheConstants.{MODULES};
 ghost use Rattle.plat_handler.specs.Courses.{change_of, translation_of};
 ghost use Rattle.plat_handler.specs.Phases.{decided};
 ghost use Rattle.plat_handler.specs.Decided.{Decides, going_to};
@@ -58,7 +59,7 @@ fn init_of(cfg: &Config, page: u32, word: u32) -> Option<Init>
 /// Whether the frame is one of these copies.
 #[tactic(auto, using(crate::proofs::GoingLemmas::copy_tests))]
 fn has_frame(copies: &Copies, frame: Frame) -> bool
-    requires module { frame.module < 8 }
+    requires module { frame.module < MODULES }
     requires rising { AreCopies copies.now }
     ensures { result ≡ list_any (same_frame frame) copies.now }
 {

@@ -5,6 +5,7 @@ ghost use Rattle.plat_grammar.specs.Forms.{Reads};
 ghost use Rattle.plat_grammar.specs.HistoryCanon.{point, comma};
 ghost use Rattle.plat_grammar.specs.HistoryForms.{part_below, cut, wanted, frame_of, translation_of, granted_of, copies_of, dir_of};
 ghost use Rattle.plat_history.specs.Shown.{parts, parts_left};
+ghost use Rattle.plat_base.specs.declared.limits.TheConstants.{MODULES, FRAMES};
 
 use crate::names::{read_head, read_right};
 use plat_base::{Copies, Dir, Frame, Grant, Why};
@@ -120,8 +121,8 @@ fn first_part(list: &[u8]) -> (&[u8], Option<&[u8]>)
 /// Frames with commas between them, on modules that rise.
 #[tactic(auto, using(crate::proofs::PartLemmas::copies_steps))]
 fn read_copies(list: &[u8], nodes: u32, frames: u32) -> Result<Copies, Why>
-    requires nodes { nodes ≤ 8 }
-    requires frames { frames ≤ 64 }
+    requires nodes { nodes ≤ MODULES }
+    requires frames { frames ≤ FRAMES }
     ensures { result ≡ copies_of nodes frames list.now }
 {
     let mut copies = Copies::none();
@@ -143,8 +144,8 @@ fn read_copies(list: &[u8], nodes: u32, frames: u32) -> Result<Copies, Why>
 /// A directory: its state, a star where the page is frozen, and a colon and its copies where it has any.
 #[tactic(auto, unfolding(plat_grammar::specs::HistoryForms::dir_of))]
 pub fn read_dir(word: &[u8], nodes: u32, frames: u32) -> Result<Dir, Why>
-    requires nodes { nodes ≤ 8 }
-    requires frames { frames ≤ 64 }
+    requires nodes { nodes ≤ MODULES }
+    requires frames { frames ≤ FRAMES }
     ensures { result ≡ dir_of nodes frames word.now }
 {
     match cut(b':', word) {

@@ -6,7 +6,7 @@ ghost use Rattle.plat_grammar.specs.HistoryForms.{named, endings, ended_line};
 ghost use Rattle.plat_grammar.specs.HistoryFaults.{ends_from};
 
 use crate::names::read_end;
-use plat_base::{End, Ended, List, Refused, TextFault, Why};
+use plat_base::{BUDGET, End, Ended, List, Refused, TextFault, Why};
 use plat_text::{Row, Rows, at_word, read_u32};
 use std::alloc::Global;
 
@@ -46,7 +46,7 @@ fn ended(rows: &mut Rows<'_>, q: u32) -> Result<Ended, Refused>
     let mut row = rows.row_with(b"processor")?;
     node(&mut row, q)?;
     let end = end(&mut row)?;
-    let turns = row.number(0, 65_536)?;
+    let turns = row.number(0, BUDGET)?;
     row.finish()?;
     Ok(Ended { end, turns })
 }

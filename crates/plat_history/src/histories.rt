@@ -1,5 +1,6 @@
 //! Histories as a text tells them.
 ghost use Rattle.std.specs.Prelude.{◌≤◌, length};
+ghost use Rattle.plat_base.specs.declared.limits.TheConstants.{MOST_ITEMS};
 
 use plat_base::{Config, Ended, Item, List};
 
@@ -10,5 +11,5 @@ pub struct History {
     pub cfg: Config,
     pub items: List<Item>,
     pub ends: List<Ended>,
-    pub ghost few: { length items.items ≤ 2621440 },
+    pub ghost few: { length items.items ≤ MOST_ITEMS },
 }

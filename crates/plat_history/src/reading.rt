@@ -1,6 +1,7 @@
 //! Whole history texts, as they are read.
 ghost use Rattle.std.specs.Prelude.{◌≡◌, ◌≤◌, length, codes, [], IfOk, Ok};
 ghost use Rattle.plat_base.specs.Seen.{machine};
+ghost use Rattle.plat_base.specs.declared.limits.TheConstants.{MOST_ITEMS};
 ghost use Rattle.plat_grammar.specs.Forms.{Reads, Gives, line_at, nothing};
 ghost use Rattle.plat_grammar.specs.FirstFault.{number_line, version_line};
 ghost use Rattle.plat_grammar.specs.HistoryCanon.{History as HistorySeen, most_items};
@@ -11,7 +12,7 @@ ghost use Rattle.plat_history.specs.Shown.{seen};
 use crate::end_lines::read_ends;
 use crate::histories::History;
 use crate::item_lines::read_item;
-use plat_base::{Config, Item, List, Refused, TextFault, Why};
+use plat_base::{Config, Item, List, MOST_ITEMS, Refused, TextFault, Why};
 use plat_machine::read_machine;
 use plat_text::Rows;
 use std::alloc::Global;
@@ -33,10 +34,10 @@ fn version(rows: &mut Rows<'_>) -> Result<(), Refused>
 fn count(rows: &mut Rows<'_>) -> Result<u32, Refused>
     ensures reads { Reads (λ n. (n, rows.new)) result
         (line_at (codes "items") (number_line 0 most_items) rows.old) }
-    ensures few { IfOk result (λ n. n ≤ 2621440) }
+    ensures few { IfOk result (λ n. n ≤ MOST_ITEMS) }
 {
     let mut row = rows.row_with(b"items")?;
-    let n = row.number(0, 2_621_440)?;
+    let n = row.number(0, MOST_ITEMS as u32)?;
     row.finish()?;
     Ok(n)
 }

@@ -4,6 +4,7 @@ ghost use Rattle.plat_base.specs.Rules.{bad_rule as bad_rule_of, bad_ends, first
 ghost use Rattle.plat_base.specs.Seen.{machine};
 ghost use Rattle.plat_base.specs.Verdicts.{policy_answer};
 ghost use Rattle.plat_base.specs.declared.items.Item.{Item as AnyItem};
+ghost use Rattle.plat_base.specs.declared.limits.TheConstants.{MOST_ITEMS};
 ghost use Rattle.plat_chronicle.specs.Present.{Shows};
 ghost use Rattle.plat_follow.specs.Followed.{AllFollow};
 ghost use Rattle.plat_judge.specs.Judged.{HasTaken, HasTakenSome, HasRoom, IsJudgeOf, judge_of};
@@ -73,7 +74,7 @@ impl Judge {
     /// The policy is the one that the machine names.
     pub fn judge(self, cfg: &Config, items: &[Item], ends: &[Ended]) -> Option<Bad>
         requires made { IsJudgeOf (machine cfg.now) self }
-        requires few { length items.now ≤ 2621440 }
+        requires few { length items.now ≤ MOST_ITEMS }
         ensures { result ≡ first_bad (machine cfg.now) (policy_answer cfg.now.policy) items.now ends.now }
     {
         self.judge_under(cfg, &cfg.policy, items, ends)
@@ -89,7 +90,7 @@ impl Judge {
         ends: &[Ended],
     ) -> Option<Bad>
         requires made { IsJudgeOf (machine cfg.now) self }
-        requires few { length items.now ≤ 2621440 }
+        requires few { length items.now ≤ MOST_ITEMS }
         ensures { result ≡ first_bad (machine cfg.now) (P.answer policy.now) items.now ends.now }
     {
         let mut judge = self;

@@ -8,11 +8,12 @@ ghost use Rattle.plat_grammar.specs.Forms.{Reads, Gives};
 ghost use Rattle.plat_grammar.specs.FirstFault.{label_line, body_line};
 ghost use Rattle.plat_grammar.specs.Drafts.{label_number, linked, with_label};
 ghost use Rattle.plat_base.specs.declared.faults.TextFault.TheVariants as fault;
+ghost use Rattle.plat_base.specs.declared.limits.TheConstants.{LABELS, INSTRUCTIONS};
 ghost use Rattle.plat_machine.specs.Shown.{draft, drafts};
 
 use crate::instructions::{Draft, instruction, is_name};
 use indexmap::IndexSet;
-use plat_base::{Instr, Label, List, Name, Refused, TextFault, Why};
+use plat_base::{Instr, LABELS, Label, List, Name, Refused, TextFault, Why};
 use plat_text::{Row, Rows, Token, at_word, refusal};
 use std::alloc::Global;
 
@@ -23,8 +24,8 @@ pub struct Body<'a> {
     pub labels: List<Label>,
     names: IndexSet<&'a [u8]>,
     ghost named: { map (λ (k : Bor (Many ℕ)). k.now) names.keys ≡ map (λ l. l.name) labels.items },
-    pub ghost few: { length labels.items ≤ 256 },
-    pub ghost short: { vec_len drafts ≤ 4096 },
+    pub ghost few: { length labels.items ≤ LABELS },
+    pub ghost short: { vec_len drafts ≤ INSTRUCTIONS },
 }
 
 fn with_label(instr: Instr, label: u32) -> Instr
@@ -65,12 +66,12 @@ impl<'a> Body<'a> {
         ensures spelled { IfOk result (λ (name : Bor (Many ℕ)). IsTrue (is_label_name name.now)) }
         ensures unknown { IfOk result (λ (name : Bor (Many ℕ)).
             list_any (λ l. bytes_eq name.now l.name) self.now.labels.items ≡ false) }
-        ensures room { OnOk result (length self.now.labels.items < 256) }
+        ensures room { OnOk result (length self.now.labels.items < LABELS) }
     {
         let line = row.line();
         let first = row.peek()?;
         let found = row.next_word()?;
-        if self.labels.len() >= 256 {
+        if self.labels.len() >= LABELS as usize {
             return Err(refusal(line, found, Why::TooMany));
         }
         if !is_name(found.bytes) {
@@ -128,7 +129,7 @@ impl<'a> Body<'a> {
     fn keep(&mut self, name: &'a [u8], at: u32) -> Result<(), TextFault>
         requires spelled { IsTrue (is_label_name name.now) }
         requires unknown { list_any (λ l. bytes_eq name.now l.name) self.old.labels.items ≡ false }
-        requires room { length self.old.labels.items < 256 }
+        requires room { length self.old.labels.items < LABELS }
         ensures labels { OnOk result (self.new.labels.items
             ≡ self.old.labels.items ++ record { name = name.entry.now; at = at } ∷ []) }
         ensures drafts { self.new.drafts.items ≡ self.old.drafts.items }

@@ -8,7 +8,7 @@ ghost use Rattle.plat_machine.specs.Shown.{drafts};
 
 use crate::bodies::Body;
 use crate::headers::number_line;
-use plat_base::{GuestText, Instr, List, TextFault};
+use plat_base::{GuestText, Instr, List, SPACES, TextFault};
 use plat_text::Rows;
 use std::alloc::Global;
 
@@ -52,7 +52,7 @@ fn code(alloc: Global, body: &Body<'_>) -> Result<List<Instr>, TextFault>
 fn guest(alloc: Global, rows: &mut Rows<'_>) -> Result<GuestText, TextFault>
     ensures { Gives (λ g. (program_seen g, rows.new)) result (guest_at rows.old) }
 {
-    let space = number_line(rows, b"guest", 0, 7)?;
+    let space = number_line(rows, b"guest", 0, SPACES - 1)?;
     let body = read_body(alloc, rows)?;
     let code = code(alloc, &body)?;
     let Body { labels, .. } = body;

@@ -1,12 +1,15 @@
 //! The lines before the distances of a machine text.
 ghost use Rattle.std.specs.Prelude.{◌≡◌, length, codes};
 ghost use Rattle.plat_base.specs.Machine.{turns_of};
+ghost use Rattle.plat_base.specs.declared.limits.TheConstants.{LISTED};
 ghost use Rattle.plat_grammar.specs.Forms.{Reads, Gives, line_at, listed, number_in};
 ghost use Rattle.plat_grammar.specs.FirstFault.{number_line, size_of, size_line, version_line, platinum_line, policy_line, random_line};
 ghost use Rattle.plat_grammar.specs.FirstFault.{schedule_line, header_at};
 ghost use Rattle.plat_machine.specs.Shown.{header};
 
-use plat_base::{List, Plan, PolicyKind, Refused, TextFault, Why};
+use plat_base::{
+    BUDGET, FRAMES, LISTED, List, MODULES, PAGES, Plan, PolicyKind, Refused, TextFault, Why,
+};
 use plat_text::{Row, Rows, at_word, read_in, read_u32, refusal};
 use std::alloc::Global;
 
@@ -91,14 +94,14 @@ fn policy(row: &mut Row<'_>) -> Result<PolicyKind, Refused>
 
 #[tactic(auto, using(plat_text::proofs::FormLemmas::each_steps))]
 fn actors(alloc: Global, row: &mut Row<'_>, nodes: u32) -> Result<List<u32>, TextFault>
-    ensures { Gives (λ list. list.items) result (listed (number_in 0 nodes) 4096 row.old) }
+    ensures { Gives (λ list. list.items) result (listed (number_in 0 nodes) LISTED row.old) }
 {
     row.peek()?;
     let line = row.line();
     let mut actors = List::new(alloc);
     while !row.is_empty() {
         let found = row.next_word()?;
-        if actors.len() >= 4096 {
+        if actors.len() >= LISTED as usize {
             return Err(TextFault::from(refusal(line, found, Why::TooMany)));
         }
         let actor = at_word(line, found, read_in(found.bytes, 0, nodes))?;
@@ -141,12 +144,12 @@ pub fn read_header(alloc: Global, rows: &mut Rows<'_>) -> Result<Header, TextFau
     ensures { Gives (λ h. (header h, rows.new)) result (header_at rows.old) }
 {
     version(rows)?;
-    let nodes = number_line(rows, b"nodes", 1, 8)?;
-    let frames = number_line(rows, b"frames", 1, 64)?;
+    let nodes = number_line(rows, b"nodes", 1, MODULES)?;
+    let frames = number_line(rows, b"frames", 1, FRAMES)?;
     let words = page_size(rows)?;
-    let pages = number_line(rows, b"pages", 1, 64)?;
+    let pages = number_line(rows, b"pages", 1, PAGES)?;
     let policy = policy(&mut rows.row_with(b"policy")?)?;
-    let budget = number_line(rows, b"budget", 1, 65_536)?;
+    let budget = number_line(rows, b"budget", 1, BUDGET)?;
     let schedule = schedule(alloc, &mut rows.row_with(b"schedule")?, nodes)?;
     Ok(Header {
         nodes,

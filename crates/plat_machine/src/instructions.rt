@@ -8,9 +8,10 @@ ghost use Rattle.plat_grammar.specs.Drafts.{name_of, target as label_at, set_lin
 ghost use Rattle.plat_grammar.specs.Drafts.{shr_line, load_line, store_line, fadd_line, switch_line, print_line, jump_line, zero_line};
 ghost use Rattle.plat_grammar.specs.Drafts.{less_line, halt_line};
 ghost use Rattle.plat_base.specs.declared.faults.Why.TheVariants as why;
+ghost use Rattle.plat_base.specs.declared.limits.TheConstants.{INSTRUCTIONS};
 ghost use Rattle.plat_machine.specs.Shown.{draft, target};
 
-use plat_base::{Instr, Refused, Why};
+use plat_base::{INSTRUCTIONS, Instr, REGISTERS, Refused, SPACES, Why};
 use plat_text::{Row, Token, at_word, read_u32, refusal};
 
 /// Where an instruction names a label.
@@ -44,7 +45,7 @@ fn read_register(word: &[u8]) -> Result<u32, Why>
 {
     match word {
         [b'r', digits @ ..] => match read_u32(digits) {
-            Ok(n) if n < 16 => Ok(n),
+            Ok(n) if n < REGISTERS => Ok(n),
             _ => Err(Why::BadRegister),
         },
         _ => Err(Why::BadRegister),
@@ -228,7 +229,7 @@ fn fadd<'a>(row: &mut Row<'a>) -> Result<Draft<'a>, Refused>
 fn switch<'a>(row: &mut Row<'a>) -> Result<Draft<'a>, Refused>
     ensures { Reads draft result (switch_line row.old) }
 {
-    let space = row.number(0, 7)?;
+    let space = row.number(0, SPACES - 1)?;
     row.finish()?;
     Ok(plain(Instr::Switch(space)))
 }
@@ -359,11 +360,11 @@ fn moving_kind<'a>(row: &mut Row<'a>, line: u32, first: Token<'a>) -> Result<Dra
 #[tactic(auto, unfolding(plat_grammar::specs::Drafts::instruction_line))]
 pub fn instruction<'a>(row: &mut Row<'a>, count: usize) -> Result<Draft<'a>, Refused>
     ensures reads { Reads draft result (instruction_line count row.old) }
-    ensures room { OnOk result (count < 4096) }
+    ensures room { OnOk result (count < INSTRUCTIONS) }
 {
     let line = row.line();
     let first = row.next_word()?;
-    if count >= 4096 {
+    if count >= INSTRUCTIONS as usize {
         return Err(refusal(line, first, Why::TooMany));
     }
     kind(row, line, first)

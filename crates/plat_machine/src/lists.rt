@@ -5,7 +5,9 @@ ghost use Rattle.plat_base.specs.Machine.{same_nodes, same_place, same_word};
 ghost use Rattle.plat_grammar.specs.Forms.{Reads, Gives, once};
 ghost use Rattle.plat_grammar.specs.FirstFault.{other_node, distance_line, entry_line, init_line, distances_at, entries_at, inits_at};
 
-use plat_base::{Distance, Entries, Entry, Init, List, Refused, TextFault, Why};
+use plat_base::{
+    Distance, Entries, Entry, Init, List, Refused, SPACES, TextFault, VIRTUAL_PAGES, Why,
+};
 use plat_text::{Row, Rows, at_word, read_u32, refusal};
 use std::alloc::Global;
 
@@ -39,8 +41,8 @@ fn distance(row: &mut Row<'_>, nodes: u32) -> Result<Distance, Refused>
 fn entry(row: &mut Row<'_>, pages: u32) -> Result<Entry, Refused>
     ensures { Reads (λ e. e) result (entry_line pages row.old) }
 {
-    let space = row.number(0, 7)?;
-    let vpage = row.number(0, 63)?;
+    let space = row.number(0, SPACES - 1)?;
+    let vpage = row.number(0, VIRTUAL_PAGES - 1)?;
     let page = row.below(pages)?;
     row.finish()?;
     Ok(Entry { space, vpage, page })

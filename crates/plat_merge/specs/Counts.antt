@@ -8,6 +8,7 @@ use Rattle.plat_base.specs.declared.items.Access.{Access}
 use Rattle.plat_base.specs.declared.items.Change.{Change}
 use Rattle.plat_base.specs.declared.items.Item.{Item}
 use Rattle.plat_base.specs.declared.items.Item.TheVariants as item
+use Rattle.plat_base.specs.declared.limits.TheConstants.{PAGES, PAGE_WORDS}
 use Rattle.plat_merge.specs.declared.counts.WordCount.{WordCount}
 use Rattle.plat_merge.specs.declared.counts.PageCount.{PageCount}
 use Rattle.plat_merge.specs.Standing.{loads_waiting, uses_waiting, writes_waiting, may_access, may_change}
@@ -38,8 +39,8 @@ loads_of page_words words a = (word_of page_words words a).loads
 
 -- there is one for each word of each page, and one for each page
 pub record FitCounts (page_words : ℕ) (words : List WordCount) (pages : List PageCount) : Type 0 where
-  pub few_pages : length pages ≤ 64
-  pub few_words : page_words ≤ 64
+  pub few_pages : length pages ≤ PAGES
+  pub few_words : page_words ≤ PAGE_WORDS
   pub all_words : length words ≡ length pages * page_words
 
 -- the item's page and word are among them

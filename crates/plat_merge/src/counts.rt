@@ -1,7 +1,7 @@
 //! What is kept of each word and of each page while journals are merged, so that an item costs the same however long the
 //! journals are.
 ghost use Rattle.std.specs.Prelude.{ℕ, replicate, ◌≡◌, ◌+◌, ◌*◌, ◌<◌, ◌≤◌, length, IsTrue, IfOk};
-ghost use Rattle.plat_base.specs.declared.limits.TheConstants.{MOST_ITEMS};
+ghost use Rattle.plat_base.specs.declared.limits.TheConstants.{MOST_ITEMS, PAGES, PAGE_WORDS, WORDS};
 ghost use Rattle.plat_merge.specs.Standing.{may_access as may_access_by, may_remove as may_remove_by};
 ghost use Rattle.plat_merge.specs.Keys.{AreFirst};
 ghost use Rattle.plat_merge.specs.Counts.{cell_of, page_at, FitCounts, is_within, stands_by, word_of, loads_of, Noted, pages_after};
@@ -64,7 +64,7 @@ impl Counts {
         requires word { access.now.word < self.now.page_words }
         ensures cell { result ≡ cell_of self.now.page_words access.now.page access.now.word }
         ensures within { result < length self.now.words.items }
-        ensures few { result < 4096 }
+        ensures few { result < WORDS }
     {
         (access.page * self.page_words + access.word) as usize
     }
@@ -145,8 +145,8 @@ impl Counts {
 
     /// Counts for words and pages of which nothing is placed.
     pub fn new(alloc: Global, pages: u32, page_words: u32) -> Result<Counts, OutOfMemory>
-        requires pages { pages ≤ 64 }
-        requires words { page_words ≤ 64 }
+        requires pages { pages ≤ PAGES }
+        requires words { page_words ≤ PAGE_WORDS }
         ensures pages { IfOk result (λ it. length it.pages.items ≡ pages) }
         ensures words { IfOk result (λ it. it.page_words ≡ page_words) }
         ensures blank { IfOk result (λ it. it.pages.items ≡ replicate pages no_page) }

@@ -8,7 +8,7 @@ ghost use Rattle.plat_merge.specs.RoomSeen.{IsRoomFor, HaveGoodHistory};
 use crate::heads::ready_actor;
 use crate::placing::place;
 use crate::rooms::Room;
-use plat_base::{Config, Item, Journals, List, PolicyKind};
+use plat_base::{ACTORS, Config, Item, Journals, List, PolicyKind};
 
 /// The number of actors: the processors, and the daemon where the policy has one.
 fn actors(cfg: &Config) -> u32
@@ -40,7 +40,7 @@ pub fn merge(cfg: &Config, journals: &Journals, room: Room) -> List<Item>
         mut totals,
     } = room;
     totals.gather(cfg.words, journals, actors);
-    let mut next = [0; 9];
+    let mut next = [0; ACTORS as usize];
     counts.begin(&totals.loads);
     for _ in 0..most {
         let Some(actor) = ready_actor(journals, &next, &counts, actors) else {

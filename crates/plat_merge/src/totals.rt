@@ -1,6 +1,6 @@
 //! How many items there are in all of those that wait for one item.
 ghost use Rattle.std.specs.Prelude.{◌≡◌, ◌+◌, ◌*◌, ◌<◌, ◌≤◌, length, replicate, IfOk};
-ghost use Rattle.plat_base.specs.declared.limits.TheConstants.{MOST_ITEMS};
+ghost use Rattle.plat_base.specs.declared.limits.TheConstants.{MOST_ITEMS, PAGES, PAGE_WORDS, WORDS};
 ghost use Rattle.plat_merge.specs.Keys.{total_at, IsBlank, AreBlank, HaveRows};
 
 use crate::keys::key_at;
@@ -35,7 +35,7 @@ fn room_for_numbers(alloc: Global, n: usize, number: u32) -> Result<Vec<u32>, Ou
 impl Table {
     /// A table of which nothing is counted, with room for so many rows and items.
     fn new(alloc: Global, rows: u32, most: u32) -> Result<Table, OutOfMemory>
-        requires rows { rows ≤ 4096 }
+        requires rows { rows ≤ WORDS }
         requires most { most ≤ MOST_ITEMS }
         ensures blank { IfOk result (IsBlank most) }
         ensures rows { IfOk result (λ it. length it.starts.items ≡ rows + 1) }
@@ -48,7 +48,7 @@ impl Table {
 
     /// How many are counted at a place of a row.
     pub fn how_many(&self, row: usize, place: u32) -> u32
-        requires { row < 4096 }
+        requires { row < WORDS }
         ensures { result ≡ total_at self.now row place }
     {
         match key_at(&self.starts, row, place) {
@@ -61,8 +61,8 @@ impl Table {
 impl Totals {
     /// Tables of which nothing is counted, with room for so many pages, words of each and items.
     pub fn new(alloc: Global, pages: u32, page_words: u32, most: u32) -> Result<Totals, OutOfMemory>
-        requires pages { pages ≤ 64 }
-        requires words { page_words ≤ 64 }
+        requires pages { pages ≤ PAGES }
+        requires words { page_words ≤ PAGE_WORDS }
         requires most { most ≤ MOST_ITEMS }
         ensures blank { IfOk result (AreBlank most) }
         ensures rows { IfOk result (HaveRows pages page_words) }

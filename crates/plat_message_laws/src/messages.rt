@@ -1,12 +1,10 @@
 //! The law of the application of a message.
-ghost use Rattle.std.specs.Prelude.{◌≡◌, ◌<◌, ℕ};
+ghost use Rattle.std.specs.Prelude.{◌≡◌, ℕ};
 ghost use Rattle.plat_base.specs.Seen.{machine};
 ghost use Rattle.plat_base.specs.declared.items.Message.{Message};
 ghost use Rattle.plat_base.specs.declared.items.Moment.{Moment};
-ghost use Rattle.plat_events.specs.Privates.{Onward, Applying, actor_count};
-ghost use Rattle.plat_events.specs.Kept.{private_of};
-ghost use Rattle.plat_events.specs.Runs.{Fine, event};
-ghost use Rattle.plat_events.specs.Shown.{Shows};
+ghost use Rattle.plat_events.specs.Privates.{Onward, Applying};
+ghost use Rattle.plat_fine_laws.specs.Keeping.{KeepsShown};
 
 use plat_base::{Config, Policy};
 
@@ -14,8 +12,7 @@ use plat_base::{Config, Policy};
 /// on where a processor applies the invalidate or restrict that its scan has found in the mask of an entry (Cox and Fowler 1989),
 /// be the scan one of an interrupt or one of an activation.
 pub fn any_policy_applies<P: Policy>(cfg: &Config, policy: &P)
-    ensures { (s : Fine) (a i : ℕ) (message : Message) (moment : Moment) (onward : Onward)
-        → Shows (machine cfg.now) (P.answer policy.now) s → a < actor_count (machine cfg.now)
-        → (private_of (machine cfg.now) s a).place ≡ Applying i message moment onward
-        → Shows (machine cfg.now) (P.answer policy.now) (event (machine cfg.now) (P.answer policy.now) s a) }
+    ensures { (i : ℕ) (message : Message) (moment : Moment) (onward : Onward)
+        → KeepsShown (machine cfg.now) (P.answer policy.now)
+        (λ place. place ≡ Applying i message moment onward) }
 {}

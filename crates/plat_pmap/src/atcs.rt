@@ -2,6 +2,7 @@
 ghost use Rattle.std.specs.Prelude.{◌≡◌, ◌<◌, if◌then◌else◌, IsTrue, IsSome, length, map, slice_set};
 ghost use Rattle.plat_base.specs.Cache.{Cache, accessed, no_places, serves_access, without_entry};
 ghost use Rattle.plat_base.specs.Flat.{is_write};
+ghost use Rattle.plat_base.specs.declared.limits.TheConstants.{VIRTUAL_PAGES};
 ghost use Rattle.plat_pmap.specs.Slots.{Agrees, no_slots, slot_of, kept, place_of, places, filled, counted, without_slot, is_usable};
 ghost use Rattle.plat_pmap.specs.Translations.{translation_of, usable};
 
@@ -61,7 +62,7 @@ impl Atc {
     /// a miss looks in the Pmap, and fills the place where that has a translation with enough right.
     pub fn find(&mut self, pmap: &Pmap, entry: u32, vpage: u32, kind: Kind) -> Look
         requires entry { entry < length pmap.now }
-        requires vpage { vpage < 64 }
+        requires vpage { vpage < VIRTUAL_PAGES }
         requires agrees { Agrees self.old pmap.now entry vpage (is_write kind) }
         ensures found { result.found ≡ usable kind (translation_of pmap.now entry) }
         ensures hit { result.hit ≡ serves_access entry (is_write kind) (place_of (slot_of self.old vpage)) }

@@ -5,7 +5,6 @@ use Rattle.plat_base.specs.Verdicts.{Answer}
 use Rattle.plat_base.specs.declared.frames.Frame.{Frame}
 use Rattle.plat_base.specs.declared.frames.Dir.{Dir}
 use Rattle.plat_base.specs.declared.items.Cause.{Cause}
-use Rattle.plat_base.specs.declared.policies.Verdict.{Verdict}
 use Rattle.plat_base.specs.Machine.{Machine}
 use Rattle.plat_base.specs.Decide.{may_decide, is_dir, fits_cause}
 

@@ -6,8 +6,7 @@ ghost use Rattle.plat_base.specs.Decide.{may_decide, is_dir, has_copies, is_fram
 ghost use Rattle.plat_base.specs.Seen.{machine};
 
 use crate::decisions::verdict_on;
-use crate::distances::MODULES;
-use plat_base::{Cause, Config, Copies, Dir, Frame, Policy, State, Verdict};
+use plat_base::{Cause, Config, Copies, Dir, Frame, MODULES, Policy, State, Verdict};
 
 /// The test of what `decide` requires: whether `dir` is a directory that the machine can have, and `got` is a frame that
 /// the fault can use, or none where it can use none.

@@ -4,6 +4,7 @@ ghost use Rattle.plat_base.specs.Alike.{same_verdict};
 ghost use Rattle.plat_base.specs.Copies.{copy_on, with_frame};
 ghost use Rattle.plat_base.specs.Decide.{decide, is_dir, fits_cause, moves_page, row_does, decision, after_with, thawed_state, first_frame};
 ghost use Rattle.plat_base.specs.Seen.{machine};
+ghost use Rattle.plat_base.specs.declared.limits.TheConstants.{MODULES, FRAMES};
 ghost use Rattle.plat_policy.specs.Rows.{row_seen, row_fits, asked};
 
 use crate::distances::{lowest, nearest};
@@ -49,7 +50,7 @@ pub(crate) fn verdict_on<P: Policy>(
     now: u32,
     node: u32,
 ) -> Verdict
-    requires { node < 8 }
+    requires { node < MODULES }
     ensures { result ≡ asked (P.answer policy.now) dir.now last now node }
 {
     if dir.state != State::Empty && dir.copies.on(node).is_none() {
@@ -111,8 +112,8 @@ fn row_does(
 
 /// An empty page gets its first copy.
 fn fill(state: State, frozen: bool, frame: Frame) -> Decision
-    requires module { frame.module < 8 }
-    requires number { frame.number < 64 }
+    requires module { frame.module < MODULES }
+    requires number { frame.number < FRAMES }
     ensures { result ≡ decision Action.Fill Removed.Nothing (after_with state frozen (frame ∷ [])) false
         frame }
 {
@@ -164,8 +165,8 @@ fn map(action: Action, dir: &Dir, state: State, frozen: bool, frame: Frame) -> D
 
 /// The page gets one more copy.
 fn replicate(removed: Removed, dir: &Dir, frozen: bool, frame: Frame) -> Decision
-    requires module { frame.module < 8 }
-    requires number { frame.number < 64 }
+    requires module { frame.module < MODULES }
+    requires number { frame.number < FRAMES }
     ensures { result ≡ decision Action.Replicate removed
         (after_with State.PresentPlus frozen (with_frame frame dir.now.copies)) false frame }
 {
@@ -184,8 +185,8 @@ fn replicate(removed: Removed, dir: &Dir, frozen: bool, frame: Frame) -> Decisio
 
 /// One copy is left, which may be written; the others are freed.
 fn keep_one(action: Action, frozen: bool, frame: Frame) -> Decision
-    requires module { frame.module < 8 }
-    requires number { frame.number < 64 }
+    requires module { frame.module < MODULES }
+    requires number { frame.number < FRAMES }
     ensures { result ≡ decision action Removed.All (after_with State.Modified frozen (frame ∷ [])) true
         frame }
 {

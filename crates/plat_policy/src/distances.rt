@@ -5,10 +5,7 @@ ghost use Rattle.plat_base.specs.Decide.{nearest, nearer, first_frame};
 ghost use Rattle.plat_base.specs.Pages.{distance};
 ghost use Rattle.plat_base.specs.Seen.{machine};
 
-use plat_base::{Config, Copies, Distance, Frame};
-
-/// The most modules that a machine can have.
-pub(crate) const MODULES: u32 = 8;
+use plat_base::{Config, Copies, Distance, Frame, MODULES};
 
 /// The distance from node `a` to node `b`.
 pub fn distance(cfg: &Config, a: u32, b: u32) -> u32

@@ -8,6 +8,7 @@ use Rattle.plat_base.specs.Accesses.{cause_of, writes_made}
 use Rattle.plat_base.specs.declared.items.Item.{Item}
 use Rattle.plat_base.specs.declared.items.Item.TheVariants as item
 use Rattle.plat_base.specs.declared.items.Translation.{Translation}
+use Rattle.plat_base.specs.declared.limits.TheConstants.{VIRTUAL_PAGES}
 use Rattle.plat_events.specs.Events.{entry_of, reach_now, vpage_of}
 use Rattle.plat_events.specs.Places.{entry_count}
 use Rattle.plat_events.specs.Privates.{translation_at}
@@ -29,7 +30,7 @@ pub record IsReach (m : Machine) (r : Reached) : Type 0 where
   pub entry : r.entry ≡ entry_of m (reach_seen r)
   pub within : r.entry < length m.entries
   pub vpage : r.vpage ≡ vpage_of m (reach_seen r)
-  pub narrow : r.vpage < 64
+  pub narrow : r.vpage < VIRTUAL_PAGES
   pub page : page_of m r.entry ≡ r.page
 
 -- the access of processor q that found the word n, by a translation

@@ -2,6 +2,7 @@
 ghost use Rattle.std.specs.Prelude.{◌≡◌, ◌<◌, ◌≤◌, length, slice_index};
 ghost use Rattle.plat_base.specs.Pages.{entries_of_space};
 ghost use Rattle.plat_base.specs.Seen.{machine};
+ghost use Rattle.plat_base.specs.declared.limits.TheConstants.{ENTRIES};
 
 use plat_base::Config;
 
@@ -9,7 +10,7 @@ use plat_base::Config;
 #[tactic(auto, using(plat_base::proofs::EntryLists::space_entries_few))]
 pub fn count_of_space(cfg: &Config, space: u32) -> u32
     ensures count { result ≡ length (entries_of_space (machine cfg.now) space) }
-    ensures most { result ≤ 512 }
+    ensures most { result ≤ ENTRIES }
 {
     cfg.entries_of_space(space).len() as u32
 }

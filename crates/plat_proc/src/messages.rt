@@ -1,6 +1,7 @@
 //! The bits of a mask that a processor looks at, and those that it clears.
 ghost use Rattle.std.specs.Prelude.{◌≡◌, ◌<◌};
 ghost use Rattle.plat_base.specs.Rules.{may_apply};
+ghost use Rattle.plat_base.specs.declared.limits.TheConstants.{MODULES};
 ghost use Rattle.plat_events.specs.Words.{all_but, bits_applied, has_invalidate, has_restrict};
 
 use plat_base::{MODULES, Message, Translation};
@@ -8,7 +9,7 @@ use plat_words::{CmapWord, bit};
 
 /// Whether an invalidate waits for processor `q`.
 pub fn has_invalidate(mask: u64, q: u32) -> bool
-    requires { q < 8 }
+    requires { q < MODULES }
     ensures { result ≡ has_invalidate mask q }
 {
     bit(mask, MODULES + q)
@@ -16,7 +17,7 @@ pub fn has_invalidate(mask: u64, q: u32) -> bool
 
 /// Whether a restrict waits for processor `q`.
 pub fn has_restrict(mask: u64, q: u32) -> bool
-    requires { q < 8 }
+    requires { q < MODULES }
     ensures { result ≡ has_restrict mask q }
 {
     bit(mask, 2 * MODULES + q)
@@ -25,7 +26,7 @@ pub fn has_restrict(mask: u64, q: u32) -> bool
 /// The bits that stay when processor `q` applies a message: an invalidate clears all of its own, a restrict that of the
 /// restrict alone.
 pub fn bits_kept(message: Message, q: u32) -> u64
-    requires { q < 8 }
+    requires { q < MODULES }
     ensures { result ≡ all_but (bits_applied message q) }
 {
     let own = 1 << q;

@@ -1,6 +1,7 @@
 //! Which place follows a poll, a scan's look, and the end of a turn.
 ghost use Rattle.std.specs.Prelude.{◌<◌, None};
 ghost use Rattle.plat_base.specs.Seen.{machine};
+ghost use Rattle.plat_base.specs.declared.limits.TheConstants.{MODULES, SPACES, ENTRIES};
 ghost use Rattle.plat_events.specs.Scans.{go_on, scan_from, turn_over};
 ghost use Rattle.plat_proc.specs.Onwards.{LeadsOn, LeadsTo, look_from, poll_from};
 
@@ -52,7 +53,7 @@ pub fn scan_from(
 
 /// What follows a poll that found these interrupts: a scan, where one is for the active space.
 pub fn polled(cfg: &Config, turns: u32, space: u32, onward: Onward, interrupts: u64) -> Place
-    requires { space < 8 }
+    requires { space < SPACES }
     ensures { LeadsOn onward result (poll_from (machine cfg.now) turns space interrupts) }
 {
     if bit(interrupts, space) {
@@ -73,8 +74,8 @@ pub fn looked(
     onward: Onward,
     mask: u64,
 ) -> Place
-    requires processor { q < 8 }
-    requires below { i < 512 }
+    requires processor { q < MODULES }
+    requires below { i < ENTRIES }
     ensures { LeadsOn onward result (look_from (machine cfg.now) q turns space i moment mask) }
 {
     if has_invalidate(mask, q) {

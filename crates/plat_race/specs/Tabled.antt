@@ -1,6 +1,6 @@
 -- the four tables of a search for races, and what they say after so many items
 use Rattle.std.specs.Prelude.{◌≡◌, ℕ, ◌+◌, ◌*◌, ◌<◌, ◌≤◌, List, [], length, slice_index, slice_index_or, slice_set}
-use Rattle.plat_base.specs.declared.limits.TheConstants.{MODULES}
+use Rattle.plat_base.specs.declared.limits.TheConstants.{MODULES, PAGES, PAGE_WORDS}
 use Rattle.plat_base.specs.Machine.{Machine}
 use Rattle.plat_base.specs.declared.items.Item.{Item}
 use Rattle.plat_race.specs.Marks.{is_by, adds_to, uses, writes, AreMarks, AreLasts}
@@ -19,8 +19,8 @@ word_row words page word = page * words + word
 
 -- one row for each actor, and in three tables one for each word of each page
 pub record FitTables (pages words : ℕ) (clocks adds accesses stores : List (List ℕ)) : Type 0 where
-  pub few_pages : pages ≤ 64
-  pub few_words : words ≤ 64
+  pub few_pages : pages ≤ PAGES
+  pub few_words : words ≤ PAGE_WORDS
   pub clocks_size : length clocks ≡ MODULES
   pub adds_size : length adds ≡ pages * words
   pub accesses_size : length accesses ≡ pages * words

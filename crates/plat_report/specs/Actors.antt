@@ -4,6 +4,7 @@ use Rattle.plat_base.specs.Machine.{Machine}
 use Rattle.plat_base.specs.Cache.{cache_start, cache_of, cache_after}
 use Rattle.plat_base.specs.declared.items.Item.{Item}
 use Rattle.plat_base.specs.declared.items.Item.TheVariants as item
+use Rattle.plat_base.specs.declared.limits.TheConstants.{MODULES}
 use Rattle.plat_report.specs.Counts.{most, access_counts, with_access, AccessRoom}
 use Rattle.plat_report.specs.declared.actors.ActorCounts.{ActorCounts}
 
@@ -32,7 +33,7 @@ pub record CountRoom (counts : ActorCounts) : Type 0 where
   pub hits : counts.cache.hits < most
   pub misses : counts.cache.misses < most
 
--- these are the counts of each of eight processors
+-- these are the counts of each processor
 pub record ShowsCounts (m : Machine) (items : List Item) (counts : List ActorCounts) : Type 0 where
-  pub size : length counts ≡ 8
-  pub at : (q : ℕ) → q < 8 → slice_index_or counts q no_counts ≡ actor_counts m items q
+  pub size : length counts ≡ MODULES
+  pub at : (q : ℕ) → q < MODULES → slice_index_or counts q no_counts ≡ actor_counts m items q

@@ -10,7 +10,7 @@ ghost use Rattle.plat_report.specs.Sums.{ShowsSums};
 
 use crate::actors::{ActorCounts, take_in};
 use crate::totals::Totals;
-use plat_base::{Config, Item};
+use plat_base::{Config, Item, MODULES};
 use plat_flat::Flat;
 
 /// Flat memory, the counts of the whole history, and those of each processor, by its number. Each is kept up item by
@@ -19,7 +19,7 @@ use plat_flat::Flat;
 pub(crate) struct Sums {
     pub flat: Flat,
     pub totals: Totals,
-    pub actors: [ActorCounts; 8],
+    pub actors: [ActorCounts; MODULES as usize],
 }
 
 impl Sums {
@@ -32,7 +32,7 @@ impl Sums {
         Sums {
             flat,
             totals,
-            actors: [counts; 8],
+            actors: [counts; MODULES as usize],
         }
     }
 

@@ -1,10 +1,7 @@
 //! The law of the operations of a session on its page.
-ghost use Rattle.std.specs.Prelude.{◌<◌, ℕ, IsTrue};
+ghost use Rattle.std.specs.Prelude.{IsTrue};
 ghost use Rattle.plat_base.specs.Seen.{machine};
-ghost use Rattle.plat_events.specs.Privates.{actor_count};
-ghost use Rattle.plat_events.specs.Kept.{private_of};
-ghost use Rattle.plat_events.specs.Runs.{Fine, event};
-ghost use Rattle.plat_events.specs.Shown.{Shows};
+ghost use Rattle.plat_fine_laws.specs.Keeping.{KeepsShown};
 ghost use Rattle.plat_session_laws.specs.Handling.{handles_page};
 
 use plat_base::{Config, Policy};
@@ -14,8 +11,5 @@ use plat_base::{Config, Policy};
 /// actor polls and locks again), the load of the page's stamp, its store, the grant of a processor's reference, and the unlock
 /// of a page that stays as it was. The unlock with a change is not among them.
 pub fn any_policy_sessions<P: Policy>(cfg: &Config, policy: &P)
-    ensures { (s : Fine) (a : ℕ) → Shows (machine cfg.now) (P.answer policy.now) s →
-        a < actor_count (machine cfg.now)
-        → IsTrue (handles_page (private_of (machine cfg.now) s a).place)
-        → Shows (machine cfg.now) (P.answer policy.now) (event (machine cfg.now) (P.answer policy.now) s a) }
+    ensures { KeepsShown (machine cfg.now) (P.answer policy.now) (λ place. IsTrue (handles_page place)) }
 {}

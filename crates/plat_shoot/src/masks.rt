@@ -2,6 +2,7 @@
 ghost use Rattle.std.specs.Prelude.{◌≡◌, ℕ, ◌<◌, ◌≤◌, ◌^◌, ◌&&◌, not};
 ghost use Rattle.plat_events.specs.Words.{has_bit, has_reference, has_references, has_message, posted_mask};
 ghost use Rattle.plat_shoot.specs.Parts.{parts_word};
+ghost use Rattle.plat_base.specs.declared.limits.TheConstants.{MODULES};
 
 use plat_base::Removed;
 use plat_base::limits::MODULES;
@@ -16,7 +17,7 @@ pub fn has_references(mask: u64) -> bool
 
 /// Whether processor `q` has a reference.
 pub fn has_reference(mask: u64, q: u32) -> bool
-    requires { q ≤ 8 }
+    requires { q ≤ MODULES }
     ensures { result ≡ has_reference mask q }
 {
     bit(mask, q)
@@ -24,7 +25,7 @@ pub fn has_reference(mask: u64, q: u32) -> bool
 
 /// Whether a message waits for processor `q`.
 pub fn has_message(mask: u64, q: u32) -> bool
-    requires { q ≤ 8 }
+    requires { q ≤ MODULES }
     ensures { result ≡ has_message mask q }
 {
     bit(mask, MODULES + q) || bit(mask, 2 * MODULES + q)
@@ -41,7 +42,7 @@ fn without(set: u32, gone: u32) -> u32
 /// The mask after a post of `actor`. To remove all sends an invalidate to each other processor with a reference, and clears
 /// the actor's own bits; to remove writes sends a restrict to each other one for which no invalidate waits.
 pub fn posted_mask(removed: Removed, actor: u32, mask: u64) -> u64
-    requires actor { actor ≤ 8 }
+    requires actor { actor ≤ MODULES }
     requires mask { mask < 2 ^ 24 }
     ensures { result ≡ posted_mask removed actor mask }
 {
@@ -57,7 +58,7 @@ pub fn posted_mask(removed: Removed, actor: u32, mask: u64) -> u64
 
 /// A restrict for each other reference without an invalidate.
 fn writes_posted(mask: CmapWord, actor: u32) -> CmapWord
-    requires { actor ≤ 8 }
+    requires { actor ≤ MODULES }
     ensures { parts_word result.reference result.invalidate result.restrict
         ≡ posted_mask Removed.Writes actor (parts_word mask.reference mask.invalidate mask.restrict) }
 {
@@ -71,7 +72,7 @@ fn writes_posted(mask: CmapWord, actor: u32) -> CmapWord
 
 /// An invalidate for each other reference, and no bit of the actor's own.
 fn all_posted(mask: CmapWord, actor: u32) -> CmapWord
-    requires { actor ≤ 8 }
+    requires { actor ≤ MODULES }
     ensures { parts_word result.reference result.invalidate result.restrict
         ≡ posted_mask Removed.All actor (parts_word mask.reference mask.invalidate mask.restrict) }
 {

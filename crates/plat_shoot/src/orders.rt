@@ -14,11 +14,11 @@ use crate::masks::{has_message, has_reference, has_references, posted_mask};
 use crate::steps::{Shot, Step};
 use crate::targets::{Passed, Target, target_at};
 use arrayvec::ArrayVec;
-use plat_base::{Config, Op, Removed, WordName};
+use plat_base::{Config, ENTRIES, Op, Removed, WordName};
 use plat_words::is_word;
 
 /// The most entries that lead to one page: each virtual page of each space.
-pub const MOST_POSTS: usize = 512;
+pub const MOST_POSTS: usize = ENTRIES as usize;
 
 /// The masks that were found, one for each entry of the page so far.
 pub type Posts = ArrayVec<u64, MOST_POSTS>;

@@ -3,6 +3,7 @@ ghost use Rattle.std.specs.Prelude.{◌≡◌, ℕ, ◌+◌, ◌<◌, ◌≤◌,
 ghost use Rattle.std.specs.Option.{option_map};
 ghost use Rattle.plat_base.specs.Pages.{entries_of_page};
 ghost use Rattle.plat_base.specs.Seen.{machine};
+ghost use Rattle.plat_base.specs.declared.limits.TheConstants.{MODULES};
 ghost use Rattle.plat_events.specs.Shootdowns.{targets};
 ghost use Rattle.plat_events.specs.Words.{has_reference};
 ghost use Rattle.plat_shoot.specs.Sought.{found_seen, others, HasPassed, IsAt, IsSought, IsWithin};
@@ -75,7 +76,7 @@ pub struct Found {
 
 /// Whether processor `q`, other than the actor, has a reference.
 fn is_other(mask: u64, actor: u32, q: u32) -> bool
-    requires { q ≤ 8 }
+    requires { q ≤ MODULES }
     ensures { result ≡ (has_reference mask q && not (q == actor)) }
 {
     has_reference(mask, q) && q != actor

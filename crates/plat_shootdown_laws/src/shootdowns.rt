@@ -1,10 +1,7 @@
 //! The law of the operations of shootdowns.
-ghost use Rattle.std.specs.Prelude.{◌<◌, ℕ, IsTrue};
+ghost use Rattle.std.specs.Prelude.{IsTrue};
 ghost use Rattle.plat_base.specs.Seen.{machine};
-ghost use Rattle.plat_events.specs.Privates.{actor_count};
-ghost use Rattle.plat_events.specs.Kept.{private_of};
-ghost use Rattle.plat_events.specs.Runs.{Fine, event};
-ghost use Rattle.plat_events.specs.Shown.{Shows};
+ghost use Rattle.plat_fine_laws.specs.Keeping.{KeepsShown};
 ghost use Rattle.plat_shootdown_laws.specs.Shooting.{shoots};
 
 use plat_base::{Config, Policy};
@@ -15,8 +12,5 @@ use plat_base::{Config, Policy};
 /// interrupt and while it is waited for; every interrupt; and every look at a mask for a target's messages, with the last
 /// target that is passed.
 pub fn any_policy_shoots<P: Policy>(cfg: &Config, policy: &P)
-    ensures { (s : Fine) (a : ℕ) → Shows (machine cfg.now) (P.answer policy.now) s →
-        a < actor_count (machine cfg.now)
-        → IsTrue (shoots (private_of (machine cfg.now) s a).place)
-        → Shows (machine cfg.now) (P.answer policy.now) (event (machine cfg.now) (P.answer policy.now) s a) }
+    ensures { KeepsShown (machine cfg.now) (P.answer policy.now) (λ place. IsTrue (shoots place)) }
 {}

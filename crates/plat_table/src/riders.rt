@@ -2,6 +2,7 @@
 ghost use Rattle.std.specs.Prelude.{◌≡◌, ◌+◌, ◌<◌, ◌≤◌, ◌++◌, false, true, not, length, take, drop, Some, slice_get};
 ghost use Rattle.arrayvec.specs.ArrayVec.{array_vec_len};
 ghost use Rattle.plat_base.specs.Seen.{machine};
+ghost use Rattle.plat_base.specs.declared.limits.TheConstants.{ACTORS};
 ghost use Rattle.plat_daemon.specs.DaemonSeen.{went_to};
 ghost use Rattle.plat_table.specs.Actors.{Fits, has_ended, held};
 ghost use Rattle.plat_table.specs.Ports.{IsAtItsTable};
@@ -14,12 +15,15 @@ use crate::gates::Gate;
 use crate::ports::TablePort;
 use crate::rules::{Halves, Steps, Token, Turn};
 use arrayvec::ArrayVec;
-use plat_base::Config;
+use plat_base::{ACTORS, Config};
 use plat_daemon::Went;
 use std::marker::{Brand, Model, PhantomData};
 
 /// Up to eight processors and the daemon.
-pub(crate) type Actors = ArrayVec<Actor, 9>;
+pub(crate) type Actors = ArrayVec<Actor, SEATS>;
+
+/// The most actors that a rider can seat.
+const SEATS: usize = ACTORS as usize;
 
 /// Some actors of a machine, in rising number, and what lets them make operations on its board.
 #[derive(Drop)]
@@ -167,7 +171,7 @@ fn upper(actors: &mut Actors) -> Actors
 
 /// Takes others behind.
 fn append(actors: &mut Actors, mut others: Actors)
-    requires { array_vec_len actors.old + array_vec_len others ≤ 9 }
+    requires { array_vec_len actors.old + array_vec_len others ≤ ACTORS }
     ensures { actors.new.items ≡ actors.old.items ++ others.items }
 {
     while !others.is_empty() {

@@ -3,6 +3,6 @@ use Rattle.plat_message_laws.proofs.ApplyLaws.{keeps_apply}
 use Rattle.plat_message_laws.proofs.messages.any_policy_applies.Goals as goal
 
 pub returns : goal.returns
-returns g c = λ s a i message moment onward shows within stands.
+returns g c = λ i message moment onward s a shows within stands.
     keeps_apply (machine c.args.cfg.now) (g.P.Policy.answer c.args.policy.now) s a i message moment onward c.args.cfg.now.limits shows
     within stands
